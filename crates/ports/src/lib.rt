@@ -1,0 +1,15 @@
+//! The outside as the program meets it: files by name, a sink for its output, and a gate between threads.
+//!
+//! A port counts its faults, so that an answer of a fault has a cause that a contract can name. A port
+//! may tell what it holds, and then contracts say what each call reads and writes.
+#![tactic(auto)]
+
+mod desk;
+mod fault;
+mod gate;
+mod sink;
+
+pub use desk::Desk;
+pub use fault::{PortFault, ReadFault};
+pub use gate::{Gate, OpenGate};
+pub use sink::{Sink, write_all};
