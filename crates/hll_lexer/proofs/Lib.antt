@@ -1,0 +1,4 @@
+pub mod TableLemmas
+pub mod TokenLemmas
+pub mod SplitLemmas
+pub mod PlaceLemmas
