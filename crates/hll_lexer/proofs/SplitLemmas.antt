@@ -1,14 +1,14 @@
 -- A text is split into tokens in one way, found from the front.
-use Rattle.std.proofs.Common.{◌≡◌, ◌+◌, ◌-◌, ◌<◌, ◌≤◌, ℕ, Bool, true, false, List, [], ◌∷◌, ◌++◌, length, get_or, take, drop, inl, inr, refl, sym, ap, subst, ◌∙◌, arith, add_assoc, add-zero, append_assoc, append-nil, length-append, take-append-drop, get_or-drop, drop-drop, length-drop, length-take-le}
+use Rattle.std.proofs.Common.{◌≡◌, ◌+◌, ◌<◌, ◌≤◌, ℕ, false, List, [], ◌∷◌, ◌++◌, length, get_or, take, drop, inl, inr, refl, sym, ap, subst, ◌∙◌, arith, add_assoc, add-zero, append_assoc, append-nil, length-append, take-append-drop, get_or-drop, drop-drop, length-drop, length-take-le}
 use Rattle.std.proofs.lemmas.Bool.{and_parts, and_from, both_ways}
 use Rattle.std.proofs.lemmas.List.{get_or_append_left, drop_all}
 use Rattle.std.proofs.lemmas.List.Folds.{list_all-append}
 use Rattle.std.proofs.lemmas.List.Sums.{prefix_len_stops, prefix_len-le-length}
-use Rattle.std.specs.List.{list_all, prefix_len}
+use Rattle.std.specs.List.{prefix_len}
 use Rattle.hll_lexer.specs.Tokens.{is_blank, AreBlanks, IsBuilt, IsLongestToken, BeginsWith, SplitsFrom, Splits}
 use Rattle.hll_lexer.specs.declared.token.Token.{Token}
 use Rattle.hll_lexer.specs.declared.token.TokenKind.{TokenKind}
-use Rattle.hll_lexer.proofs.TokenLemmas.{cuts, first_of_token, AreSame, one_longest, front_passes}
+use Rattle.hll_lexer.proofs.TokenLemmas.{cuts, first_of_token, one_longest, front_passes}
 
 -- ---- blanks
 
@@ -46,7 +46,7 @@ stands at text t rest first b =
       from = b.from ∙ ap (λ (g : List ℕ). at + length g) none ∙ add-zero at;
       to = b.to;
       token = b.token;
-      built = b.built
+      built = b.built;
     }
 
 begins : (at : ℕ) (text : List ℕ) (t : Token) (rest : List ℕ) → StandsAt at text t rest → BeginsWith at text t rest
@@ -58,7 +58,7 @@ begins at text t rest s = record {
   from = s.from ∙ sym (add-zero at);
   to = s.to;
   token = s.token;
-  built = s.built
+  built = s.built;
 }
 
 -- ---- blanks before a token
@@ -72,7 +72,7 @@ skips at gap text t rest blanks b = record {
   from = b.from ∙ simp (length-append, add_assoc);
   to = b.to;
   token = b.token;
-  built = b.built
+  built = b.built;
 }
 
 peels_short : (at : ℕ) (gap text : List ℕ) (t : Token) (rest : List ℕ) (b : BeginsWith at (gap ++ text) t rest) (more : List ℕ) → AreBlanks gap → gap ≡ b.gap ++ more → b.bytes ++ rest ≡ more ++ text → BeginsWith (at + length gap) text t rest
@@ -86,7 +86,7 @@ peels_short at gap text t rest b [] blanks front back =
       from = b.from ∙ ap (λ (g : List ℕ). at + length g) (sym same) ∙ sym (add-zero (at + length gap));
       to = b.to;
       token = b.token;
-      built = b.built
+      built = b.built;
     }
 peels_short at gap text t rest b (c ∷ more) blanks front back =
     let token = first_of_token b.bytes t.kind b.token.token in
@@ -96,7 +96,7 @@ peels_short at gap text t rest b (c ∷ more) blanks front back =
 peels : (at : ℕ) (gap text : List ℕ) (t : Token) (rest : List ℕ) → AreBlanks gap → BeginsWith at (gap ++ text) t rest → BeginsWith (at + length gap) text t rest
 peels at gap text t rest blanks b =
     elim (cuts gap text b.gap (b.bytes ++ rest) (b.whole ∙ append_assoc b.gap b.bytes rest)) [
-      inl h ↦ record {
+      | inl h ↦ record {
         gap = h.0;
         bytes = b.bytes;
         whole = h.2 ∙ sym (append_assoc h.0 b.bytes rest);
@@ -104,9 +104,9 @@ peels at gap text t rest blanks b =
         from = b.from ∙ ap (λ (g : List ℕ). at + length g) h.1 ∙ simp (length-append, add_assoc);
         to = b.to;
         token = b.token;
-        built = b.built
+        built = b.built;
       }
-    | inr h ↦ peels_short at gap text t rest b h.0 blanks h.1 h.2
+      | inr h ↦ peels_short at gap text t rest b h.0 blanks h.1 h.2
     ]
 
 splits_skips : (at : ℕ) (gap text : List ℕ) (ts : List Token) → AreBlanks gap → SplitsFrom (at + length gap) text ts → SplitsFrom at (gap ++ text) ts
@@ -148,7 +148,7 @@ split_first text n is = record {
   within = (blanks_cut text n is).0;
   stands = λ h. subst (λ (k : ℕ). is_blank (get_or text k 0) ≡ false) (sym is) (prefix_len_stops is_blank text 0 (omega arith));
   found = λ ts s. before_blanks 0 text n ts is (let P : ℕ → Type 0 = λ k. SplitsFrom k (drop n text) ts in subst P (omega arith) s);
-  only = λ ts s. (ts, refl, (let P : ℕ → Type 0 = λ k. SplitsFrom k (drop n text) ts in subst P (omega arith) (after_blanks 0 text n ts is s)))
+  only = λ ts s. (ts, refl, (let P : ℕ → Type 0 = λ k. SplitsFrom k (drop n text) ts in subst P (omega arith) (after_blanks 0 text n ts is s)));
 }
 
 -- the one token at a place, as the code has it
@@ -169,7 +169,7 @@ stands_at text from t len is =
       from = is.starts;
       to = is.ends ∙ ap (λ (k : ℕ). k + len) (sym is.starts) ∙ ap (λ (k : ℕ). t.from + k) (sym (length-take-le len (drop from text) is.fits));
       token = subst (λ (s : List ℕ). IsLongestToken (take len (drop from text)) t.kind s) back is.token;
-      built = is.built
+      built = is.built;
     }
 
 one_token : (t u : Token) → t.kind ≡ u.kind → t.from ≡ u.from → t.to ≡ u.to → t ≡ u
@@ -218,11 +218,11 @@ split_more text from tokens t len n so_far some is blanks =
     record {
       within = omega arith;
       stands = λ h. (
-        let stops = prefix_len_stops is_blank rest 0 (omega arith) in
-        let at : get_or rest n 0 ≡ get_or text (from + len + n) 0 = get_or-drop (from + len) text n 0 in
-        sym (ap is_blank at) ∙ ap (λ (k : ℕ). is_blank (get_or rest k 0)) blanks ∙ stops);
+          let stops = prefix_len_stops is_blank rest 0 (omega arith) in
+          let at : get_or rest n 0 ≡ get_or text (from + len + n) 0 = get_or-drop (from + len) text n 0 in
+          sym (ap is_blank at) ∙ ap (λ (k : ℕ). is_blank (get_or rest k 0)) blanks ∙ stops);
       found = λ ts s. keeps_found text from tokens t len n ts so_far is blanks s;
-      only = λ ts s. (let w = so_far.only ts s in keeps_only text from tokens t len n ts w.0 so_far some is blanks w.1 w.2)
+      only = λ ts s. (let w = so_far.only ts s in keeps_only text from tokens t len n ts w.0 so_far some is blanks w.1 w.2);
     }
 
 nothing_begins : (at : ℕ) (ts : List Token) → SplitsFrom at [] ts → ts ≡ []

@@ -1,5 +1,5 @@
 -- What a token is, and the longest token at the front of a text.
-use Rattle.std.proofs.Common.{◌≡◌, ◌+◌, ◌<◌, ◌≤◌, ℕ, zero, suc, Bool, true, false, cond, ◌&&◌, eqb, List, [], ◌∷◌, ◌++◌, length, get_or, take, drop, Option, Some, None, ◌⊎◌, inl, inr, refl, sym, ap, subst, ◌∙◌, arith, rules, codes, one-add, add-zero, length-append, length-drop, append-nil, take-append-drop, take_at, get_or-drop, find, nat_eq, option_map, MatchOption, IfNone}
+use Rattle.std.proofs.Common.{◌≡◌, ◌+◌, ◌<◌, ◌≤◌, ℕ, suc, Bool, true, false, cond, ◌&&◌, eqb, List, [], ◌∷◌, ◌++◌, length, get_or, take, drop, Option, Some, None, ◌⊎◌, inl, inr, refl, sym, ap, subst, ◌∙◌, arith, codes, one-add, add-zero, length-append, length-drop, append-nil, take-append-drop, take_at, get_or-drop, find, nat_eq, option_map, MatchOption, IfNone}
 use Rattle.std.proofs.lemmas.Bool.{and_parts, and_from, or_left, both_ways}
 use Rattle.std.proofs.lemmas.Bool.Decides.{nat_tests, Decides-eqb}
 use Rattle.std.proofs.lemmas.Slice.Eq.{bytes_eq-Decides, starts_is}
@@ -144,8 +144,8 @@ shape bytes (Marked m) t = inr (m, spelled_mark bytes m t, refl)
 pub first_of_token : (bytes : List ℕ) (kind : TokenKind) → IsToken bytes kind → (0 < length bytes) × (is_blank (get_or bytes 0 0) ≡ false)
 first_of_token bytes kind t =
     elim (shape bytes kind t) [
-      inl w ↦ (let first = first_of_word bytes w.0 in (first.0, no_blank_begins (get_or bytes 0 0) first.1))
-    | inr w ↦ (let first : FirstOfMark bytes = subst FirstOfMark (sym w.1) (first_of_mark w.0) in (first.0, first.2))
+      | inl w ↦ (let first = first_of_word bytes w.0 in (first.0, no_blank_begins (get_or bytes 0 0) first.1))
+      | inr w ↦ (let first : FirstOfMark bytes = subst FirstOfMark (sym w.1) (first_of_mark w.0) in (first.0, first.2))
     ]
 
 word_no_mark : (bytes : List ℕ) (m : Mark) → begins_word (get_or bytes 0 0) ≡ true → bytes ≡ spelling m → ⊥
@@ -155,13 +155,15 @@ word_no_mark bytes m begins e =
 pub one_kind : (bytes : List ℕ) (kind other : TokenKind) → IsToken bytes kind → IsToken bytes other → kind ≡ other
 one_kind bytes kind other t u =
     elim (shape bytes kind t) [
-      inl v ↦ elim (shape bytes other u) [
-        inl w ↦ v.1 ∙ sym w.1
-      | inr w ↦ absurd (word_no_mark bytes w.0 (first_of_word bytes v.0).1 w.1) ]
-    | inr v ↦ elim (shape bytes other u) [
-        inl w ↦ absurd (word_no_mark bytes v.0 (first_of_word bytes w.0).1 v.1)
-      | inr w ↦ (let same = same_mark v.0 w.0 [] [] (append-nil _ ∙ sym v.1 ∙ w.1 ∙ sym (append-nil _)) in
-          v.2 ∙ ap Marked same ∙ sym w.2) ]
+      | inl v ↦ elim (shape bytes other u) [
+        | inl w ↦ v.1 ∙ sym w.1
+        | inr w ↦ absurd (word_no_mark bytes w.0 (first_of_word bytes v.0).1 w.1)
+      ]
+      | inr v ↦ elim (shape bytes other u) [
+        | inl w ↦ absurd (word_no_mark bytes v.0 (first_of_word bytes w.0).1 v.1)
+        | inr w ↦ (let same = same_mark v.0 w.0 [] [] (append-nil _ ∙ sym v.1 ∙ w.1 ∙ sym (append-nil _)) in
+            v.2 ∙ ap Marked same ∙ sym w.2)
+      ]
     ]
 
 -- ---- the longest token
@@ -172,8 +174,8 @@ cuts [] b c d e = inl (c, refl, e)
 cuts (x ∷ a) b [] d e = inr (x ∷ a, refl, sym e)
 cuts (x ∷ a) b (y ∷ c) d e =
     elim (cuts a b c d cc) [
-      inl h ↦ (let tails = h.1 in inl (h.0, cc, h.2))
-    | inr h ↦ (let tails = h.1 in inr (h.0, cc, h.2))
+      | inl h ↦ (let tails = h.1 in inl (h.0, cc, h.2))
+      | inr h ↦ (let tails = h.1 in inr (h.0, cc, h.2))
     ]
 
 -- a token that goes on by some bytes isn't the longest
@@ -195,31 +197,31 @@ one_cut bytes kind rest bytes' kind' rest' more longest longest' front back =
     record {
       same_bytes = whole;
       same_kind = one_kind bytes kind kind' longest.token (subst (λ (b : List ℕ). IsToken b kind') (sym whole) longest'.token);
-      same_rest = back ∙ ap (λ (m : List ℕ). m ++ rest') none
+      same_rest = back ∙ ap (λ (m : List ℕ). m ++ rest') none;
     }
 
 -- a text begins with one longest token at most
 pub one_longest : (bytes : List ℕ) (kind : TokenKind) (rest bytes' : List ℕ) (kind' : TokenKind) (rest' : List ℕ) → IsLongestToken bytes kind rest → IsLongestToken bytes' kind' rest' → bytes ++ rest ≡ bytes' ++ rest' → AreSame bytes kind rest bytes' kind' rest'
 one_longest bytes kind rest bytes' kind' rest' longest longest' e =
     elim (cuts bytes rest bytes' rest' e) [
-      inl h ↦ one_cut bytes kind rest bytes' kind' rest' h.0 longest longest' h.1 h.2
-    | inr h ↦ (let same = one_cut bytes' kind' rest' bytes kind rest h.0 longest' longest h.1 h.2 in
-        record { same_bytes = sym same.same_bytes; same_kind = sym same.same_kind; same_rest = sym same.same_rest })
+      | inl h ↦ one_cut bytes kind rest bytes' kind' rest' h.0 longest longest' h.1 h.2
+      | inr h ↦ (let same = one_cut bytes' kind' rest' bytes kind rest h.0 longest' longest h.1 h.2 in
+          record { same_bytes = sym same.same_bytes; same_kind = sym same.same_kind; same_rest = sym same.same_rest })
     ]
 
 mark_longest : (m : Mark) (more : List ℕ) (other : TokenKind) → 0 < length more → IsToken (spelling m ++ more) other → ⊥
 mark_longest m [] other some token = omega arith
 mark_longest m (b ∷ more) other some token =
     elim (shape (spelling m ++ b ∷ more) other token) [
-      inl w ↦ both_ways _ (ap begins_word (get_or_append_left (spelling m) (b ∷ more) 0 0 (first_of_mark m).0) ∙ (first_of_mark m).1) (first_of_word _ w.0).1
-    | inr w ↦ marks_apart m w.0 b more w.1
+      | inl w ↦ both_ways _ (ap begins_word (get_or_append_left (spelling m) (b ∷ more) 0 0 (first_of_mark m).0) ∙ (first_of_mark m).1) (first_of_word _ w.0).1
+      | inr w ↦ marks_apart m w.0 b more w.1
     ]
 
 -- a mark at the front of a text is its longest token
 pub longest_mark : (m : Mark) (rest : List ℕ) → IsLongestToken (spelling m) (Marked m) rest
 longest_mark m rest = record {
   token = mark_of-spelling m;
-  longest = λ more after other cut some token. mark_longest m more other some token
+  longest = λ more after other cut some token. mark_longest m more other some token;
 }
 
 word_longest : (bytes rest more after : List ℕ) (other : TokenKind) → IsWord bytes → (0 < length rest → continues_word (get_or rest 0 0) ≡ false) → rest ≡ more ++ after → 0 < length more → IsToken (bytes ++ more) other → ⊥
@@ -229,15 +231,15 @@ word_longest bytes rest (b ∷ more) after other word ends cut some token =
     let stop = ends (omega (arith, ap length cut)) in
     let stops : continues_word b ≡ false = sym (ap (λ (r : List ℕ). continues_word (get_or r 0 0)) cut) ∙ stop in
     elim (shape (bytes ++ b ∷ more) other token) [
-      inl w ↦ both_ways _ stops (goes_on bytes b more w.0 first.0)
-    | inr w ↦ word_no_mark (bytes ++ b ∷ more) w.0 (ap begins_word (get_or_append_left bytes (b ∷ more) 0 0 first.0) ∙ first.1) w.1
+      | inl w ↦ both_ways _ stops (goes_on bytes b more w.0 first.0)
+      | inr w ↦ word_no_mark (bytes ++ b ∷ more) w.0 (ap begins_word (get_or_append_left bytes (b ∷ more) 0 0 first.0) ∙ first.1) w.1
     ]
 
 -- a word is the longest token where what follows doesn't go on with it
 pub longest_word : (bytes rest : List ℕ) → IsWord bytes → (0 < length rest → continues_word (get_or rest 0 0) ≡ false) → IsLongestToken bytes (word_kind (reserved_of bytes)) rest
 longest_word bytes rest word ends = record {
   token = word_token bytes (reserved_of bytes) refl word;
-  longest = λ more after other cut some token. word_longest bytes rest more after other word ends cut some token
+  longest = λ more after other cut some token. word_longest bytes rest more after other word ends cut some token;
 }
 
 take_step : {X : Type 0} (p : X → Bool) (pass : Bool) (x : X) (xs : List X) (n : ℕ) → p x ≡ pass → list_all p (take n xs) ≡ true → list_all p (take (cond pass (1 + n) 0) (x ∷ xs)) ≡ true
@@ -274,9 +276,9 @@ front_word text n begins is =
       some = omega (arith, word.0, is);
       fits = omega (arith, prefix_len-le-length continues_word text);
       longest = longest_word (take n text) (drop n text) whole (λ h. (
-        let stops = prefix_len_stops continues_word text 0 (omega (arith, length-drop n text, is)) in
-        let at : get_or (drop n text) 0 0 ≡ get_or text n 0 = rw (get_or-drop, add-zero) in
-        ap continues_word at ∙ ap (λ (k : ℕ). continues_word (get_or text k 0)) is ∙ stops))
+          let stops = prefix_len_stops continues_word text 0 (omega (arith, length-drop n text, is)) in
+          let at : get_or (drop n text) 0 0 ≡ get_or text n 0 = rw (get_or-drop, add-zero) in
+          ap continues_word at ∙ ap (λ (k : ℕ). continues_word (get_or text k 0)) is ∙ stops));
     }
 
 -- each longest token at the front of a text that begins with a word is that word
@@ -304,18 +306,20 @@ found_mark text row found =
     let spelled = (bytes_eq-Decides row.0 (spelling row.1)).0 passes.1 in
     let whole = (starts_is Decides-eqb text row.0 (fronting text row) refl).0 passes.0 in
     let front = sym (ap (λ (s : List ℕ). take (length row.0) s) whole ∙ take_at row.0 (drop (length row.0) text) (length row.0) refl) in
-    let some = subst (λ (s : List ℕ). 0 < length s) (sym spelled) (first_of_mark row.1).0 in
-    (some, omega (arith, ap length whole, length-append row.0 (drop (length row.0) text)),
-      subst (λ (s : List ℕ). IsLongestToken s (Marked row.1) (drop (length row.0) text)) (sym spelled ∙ front) (longest_mark row.1 (drop (length row.0) text)))
+    let some = subst (λ (s : List ℕ). 0 < length s) (sym spelled) (first_of_mark row.1).0 in (
+      some,
+      omega (arith, ap length whole, length-append row.0 (drop (length row.0) text)),
+      subst (λ (s : List ℕ). IsLongestToken s (Marked row.1) (drop (length row.0) text)) (sym spelled ∙ front) (longest_mark row.1 (drop (length row.0) text)),
+    )
 
 no_mark : (text : List ℕ) → begins_word (get_or text 0 0) ≡ false → find (fronting text) marks ≡ None → HasNoFront text
 unfolding mark_of
 no_mark text begins none bytes rest kind cut longest =
     elim (shape bytes kind longest.token) [
-      inl w ↦ (let first = first_of_word bytes w.0 in
-        both_ways _ begins (ap (λ (s : List ℕ). begins_word (get_or s 0 0)) cut ∙ ap begins_word (get_or_append_left bytes rest 0 0 first.0) ∙ first.1))
-    | inr w ↦ (let misses = find_misses (fronting text) marks bytes w.0 none (ap mark_of w.1 ∙ mark_of-spelling w.0) in
-        both_ways _ misses ((starts_is Decides-eqb text bytes (starts_with nat_eq text bytes) refl).1 rest cut))
+      | inl w ↦ (let first = first_of_word bytes w.0 in
+          both_ways _ begins (ap (λ (s : List ℕ). begins_word (get_or s 0 0)) cut ∙ ap begins_word (get_or_append_left bytes rest 0 0 first.0) ∙ first.1))
+      | inr w ↦ (let misses = find_misses (fronting text) marks bytes w.0 none (ap mark_of w.1 ∙ mark_of-spelling w.0) in
+          both_ways _ misses ((starts_is Decides-eqb text bytes (starts_with nat_eq text bytes) refl).1 rest cut))
     ]
 
 front_mark_from : (text : List ℕ) (row : Option (List ℕ × Mark)) → begins_word (get_or text 0 0) ≡ false → find (fronting text) marks ≡ row → MatchOption (option_map with_length row) (HasNoFront text) (IsFrontMark text)

@@ -3,7 +3,7 @@ use Rattle.std.specs.Prelude.{ℕ, ◌+◌, Bool, ◌==◌, List, length, take, 
 use Rattle.std.specs.List.{after_last}
 use Rattle.hll_lexer.specs.declared.places.LineColumn.{LineColumn}
 
-abbrev is_line_feed : ℕ → Bool
+abbrev pub is_line_feed : ℕ → Bool
 is_line_feed b = b == 10
 
 -- the line is one more than the line feeds before the place, the column one more than the bytes after the last of them

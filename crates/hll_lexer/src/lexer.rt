@@ -1,4 +1,4 @@
-ghost use Rattle.std.specs.Prelude.{false, IsTrue, slice_index, ◌≡◌, ◌<◌, ◌≤◌, ℕ, List, ◌++◌, length, map, find, nat_eq, take, drop, option_map, IfSome, IfNone, IfOk, Err};
+ghost use Rattle.std.specs.Prelude.{◌≡◌, ◌<◌, ◌≤◌, ◌++◌, ℕ, nat_eq, false, IsTrue, List, length, slice_index, map, find, take, drop, option_map, IfSome, IfNone, IfOk, Err};
 ghost use Rattle.std.specs.List.{prefix_len, starts_with};
 ghost use Rattle.std.specs.Map.{lookup};
 ghost use Rattle.std.specs.Str.{bytes_eq};
@@ -93,8 +93,8 @@ fn blanks(text: &[u8]) -> usize
     text.iter().take_while(|byte| is_blank(**byte)).count()
 }
 
-/// The reserved word of the first row with this spelling.
-fn spelled(rows: &[(&[u8], Reserved)], word: &[u8]) -> Option<Reserved>
+/// The reserved word with this spelling, in a table.
+fn reserved_in(rows: &[(&[u8], Reserved)], word: &[u8]) -> Option<Reserved>
     ensures { result ≡ lookup (bytes_eq word.now) (map (λ row. (row.0.now, row.1)) rows.now) }
 {
     for (spelling, reserved) in rows {
@@ -108,7 +108,7 @@ fn spelled(rows: &[(&[u8], Reserved)], word: &[u8]) -> Option<Reserved>
 fn reserved(word: &[u8]) -> Option<Reserved>
     ensures { result ≡ reserved_of word.now }
 {
-    spelled(&RESERVED, word)
+    reserved_in(&RESERVED, word)
 }
 
 /// Whether the forms with this word are built.
@@ -151,8 +151,8 @@ fn word(text: &[u8]) -> Option<(TokenKind, usize)>
     }
 }
 
-/// The first row whose spelling is the front of a text, with its length.
-fn fronting(rows: &[(&[u8], Mark)], text: &[u8]) -> Option<(Mark, usize)>
+/// The mark whose spelling is the front of a text, in a table, and its length.
+fn mark_in(rows: &[(&[u8], Mark)], text: &[u8]) -> Option<(Mark, usize)>
     ensures { result ≡ option_map (λ (row : List ℕ × Mark). (row.1, length row.0))
         (find (λ row. starts_with nat_eq text.now row.0) (map (λ row. (row.0.now, row.1)) rows.now)) }
 {
@@ -172,7 +172,7 @@ fn mark(text: &[u8]) -> Option<(TokenKind, usize)>
     ensures none { IfNone result ((bytes rest : List ℕ) (kind : TokenKind) →
         text.now ≡ bytes ++ rest → IsLongestToken bytes kind rest → IsBuilt kind → ⊥) }
 {
-    let (mark, length) = fronting(&MARKS, text)?;
+    let (mark, length) = mark_in(&MARKS, text)?;
     Some((TokenKind::Mark(mark), length))
 }
 

@@ -3,6 +3,8 @@
 
 mod lexer;
 mod places;
+#[cfg(test)]
+mod tests;
 mod token;
 mod word;
 

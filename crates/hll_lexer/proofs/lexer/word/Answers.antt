@@ -1,4 +1,4 @@
-use Rattle.std.proofs.Common.{false, Some, None, subst, sym, ap, ◌∙◌}
+use Rattle.std.proofs.Common.{Some, None, subst, sym, ap, ◌∙◌}
 use Rattle.std.proofs.lemmas.Bool.{both_ways}
 use Rattle.hll_lexer.specs.Tokens.{IsBuilt}
 use Rattle.hll_lexer.proofs.TokenLemmas.{front_word, front_kind, word_is, word_kind}

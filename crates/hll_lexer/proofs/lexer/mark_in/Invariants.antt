@@ -1,7 +1,7 @@
 use Rattle.std.proofs.Common.{◌≡◌, find, nat_eq}
 use Rattle.std.specs.List.{starts_with}
 use Rattle.hll_lexer.proofs.TableLemmas.{rows_from}
-use Rattle.hll_lexer.proofs.lexer.fronting.Given as goal
+use Rattle.hll_lexer.proofs.lexer.mark_in.Given as goal
 
 abbrev pub invariant-loop-spelling : goal.invariant-loop-spelling
 invariant-loop-spelling l =
