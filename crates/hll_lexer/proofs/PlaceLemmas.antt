@@ -6,6 +6,7 @@ use Rattle.std.specs.List.{after_last, suffix_len}
 use Rattle.hll_lexer.specs.Place.{is_line_feed, place_of}
 use Rattle.hll_lexer.specs.declared.places.LineColumn.{LineColumn}
 
+-- a text has this many bytes after the last that passes
 length-after_last : (p : ℕ → Bool) (xs : List ℕ) → length (after_last p xs) ≡ suffix_len (λ x. not (p x)) xs
 length-after_last p xs = omega (arith, length-drop (length xs - suffix_len (λ x. not (p x)) xs) xs, suffix_len-le-length (λ x. not (p x)) xs)
 
@@ -40,7 +41,7 @@ byte_of_part text from at i h =
     let lengths = length-drop from text in
     (omega arith, get_or-take (at - from) (drop from text) i 0 (omega arith) ∙ get_or-drop from text i 0)
 
--- one byte further, in a part of a text
+-- one byte further in a part of a text, past a line feed
 pub further_feed : (text : List ℕ) (from at i : ℕ) (here next : LineColumn) → i < length (take (at - from) (drop from text)) → get_or (take (at - from) (drop from text)) i 0 ≡ 10 → here ≡ place_of text (from + i) → next ≡ record { line = here.line + 1; column = 1 } → next ≡ place_of text (from + (i + 1))
 further_feed text from at i here next h feed is moves =
     let byte = byte_of_part text from at i h in
@@ -49,6 +50,7 @@ further_feed text from at i here next h feed is moves =
     let made : ℕ → LineColumn = λ l. record { line = l + 1; column = 1 } in
     moves ∙ ap (λ (p : LineColumn). made p.line) is ∙ sym after ∙ ap (place_of text) (add_assoc from i 1)
 
+-- one byte further in a part of a text, past another byte
 pub further : (text : List ℕ) (from at i : ℕ) (here next : LineColumn) → i < length (take (at - from) (drop from text)) → (get_or (take (at - from) (drop from text)) i 0 ≡ 10 → ⊥) → here ≡ place_of text (from + i) → next ≡ record { line = here.line; column = here.column + 1 } → next ≡ place_of text (from + (i + 1))
 further text from at i here next h other is moves =
     let byte = byte_of_part text from at i h in

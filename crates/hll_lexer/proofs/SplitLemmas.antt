@@ -18,6 +18,7 @@ AreBlanks-parts xs ys h = and_parts _ _ (sym (list_all-append is_blank xs ys) �
 AreBlanks-append : (xs ys : List ℕ) → AreBlanks xs → AreBlanks ys → AreBlanks (xs ++ ys)
 AreBlanks-append xs ys h k = list_all-append is_blank xs ys ∙ and_from _ _ h k
 
+-- where the first byte is no blank, no blanks stand before
 no_gap : (gap bytes : List ℕ) → AreBlanks gap → is_blank (get_or (gap ++ bytes) 0 0) ≡ false → gap ≡ []
 no_gap [] bytes blanks first = refl
 no_gap (c ∷ gap) bytes blanks first = absurd (both_ways _ first (and_parts _ _ blanks).0)
@@ -26,8 +27,9 @@ not_blanks : (text : List ℕ) → 0 < length text → is_blank (get_or text 0 0
 not_blanks [] some first blanks = omega arith
 not_blanks (c ∷ text) some first blanks = both_ways _ first (and_parts _ _ blanks).0
 
--- ---- a token that stands at the very front
+-- ---- a token with no blanks before it
 
+-- a text that begins with this token, which starts at a place, with no blanks before it
 pub record StandsAt (at : ℕ) (text : List ℕ) (t : Token) (rest : List ℕ) : Type 0 where
   pub bytes : List ℕ
   pub whole : text ≡ bytes ++ rest
@@ -63,6 +65,7 @@ begins at text t rest s = record {
 
 -- ---- blanks before a token
 
+-- blanks put before a text that begins with a token
 skips : (at : ℕ) (gap text : List ℕ) (t : Token) (rest : List ℕ) → AreBlanks gap → BeginsWith (at + length gap) text t rest → BeginsWith at (gap ++ text) t rest
 skips at gap text t rest blanks b = record {
   gap = gap ++ b.gap;
@@ -93,6 +96,7 @@ peels_short at gap text t rest b (c ∷ more) blanks front back =
     let here : is_blank c ≡ false = sym (ap (λ (s : List ℕ). is_blank (get_or s 0 0)) back) ∙ ap is_blank (get_or_append_left b.bytes rest 0 0 token.0) ∙ token.1 in
     absurd (both_ways _ here (and_parts _ _ (AreBlanks-parts b.gap (c ∷ more) (subst AreBlanks front blanks)).1).0)
 
+-- blanks taken from before such a text
 peels : (at : ℕ) (gap text : List ℕ) (t : Token) (rest : List ℕ) → AreBlanks gap → BeginsWith at (gap ++ text) t rest → BeginsWith (at + length gap) text t rest
 peels at gap text t rest blanks b =
     elim (cuts gap text b.gap (b.bytes ++ rest) (b.whole ∙ append_assoc b.gap b.bytes rest)) [
@@ -109,6 +113,7 @@ peels at gap text t rest blanks b =
       | inr h ↦ peels_short at gap text t rest b h.0 blanks h.1 h.2
     ]
 
+-- the same of a text that is split into tokens
 splits_skips : (at : ℕ) (gap text : List ℕ) (ts : List Token) → AreBlanks gap → SplitsFrom (at + length gap) text ts → SplitsFrom at (gap ++ text) ts
 splits_skips at gap text [] blanks s = AreBlanks-append gap text blanks s
 splits_skips at gap text (t ∷ ts) blanks s = (s.0, skips at gap text t s.0 blanks s.1, s.2)
@@ -143,6 +148,7 @@ pub record IsSplitUpTo (text : List ℕ) (from : ℕ) (tokens : List Token) : Ty
   pub found : (ts : List Token) → SplitsFrom from (drop from text) ts → SplitsFrom 0 text (tokens ++ ts)
   pub only : (ts : List Token) → SplitsFrom 0 text ts → (us : List Token) × (ts ≡ tokens ++ us) × SplitsFrom from (drop from text) us
 
+-- at the first byte that is no blank, no token has been found yet
 pub split_first : (text : List ℕ) (n : ℕ) → n ≡ prefix_len is_blank text → IsSplitUpTo text n []
 split_first text n is = record {
   within = (blanks_cut text n is).0;
@@ -184,6 +190,7 @@ one_at at text t rest u rest' s s' =
     let lengths = ap length same.same_bytes in
     (one_token u t (sym same.same_kind) (s'.from ∙ sym s.from) (omega (arith, s.from, s.to, s'.from, s'.to, lengths)), sym same.same_rest)
 
+-- what is found from the next place on, with the token before it, is found from this place on
 keeps_found : (text : List ℕ) (from : ℕ) (tokens : List Token) (t : Token) (len n : ℕ) (ts : List Token) → IsSplitUpTo text from tokens → IsTokenAt text from t len → n ≡ prefix_len is_blank (drop (from + len) text) → SplitsFrom (from + len + n) (drop (from + len + n) text) ts → SplitsFrom 0 text (tokens ++ t ∷ [] ++ ts)
 keeps_found text from tokens t len n ts so_far is blanks s =
     let rest = drop (from + len) text in
@@ -192,9 +199,11 @@ keeps_found text from tokens t len n ts so_far is blanks s =
     let here = begins from (drop from text) t rest (stands_at text from t len is) in
     rw append_assoc (so_far.found (t ∷ ts) (rest, here, after))
 
+-- the tokens that are left from a place on
 abbrev Rest : List ℕ → ℕ → List Token → List Token → Type 0
 Rest text from tokens ts = (us : List Token) × (ts ≡ tokens ++ us) × SplitsFrom from (drop from text) us
 
+-- what stands from this place on is the token, and what stands from the next place on
 keeps_only : (text : List ℕ) (from : ℕ) (tokens : List Token) (t : Token) (len n : ℕ) (ts us : List Token) → IsSplitUpTo text from tokens → from < length text → IsTokenAt text from t len → n ≡ prefix_len is_blank (drop (from + len) text) → ts ≡ tokens ++ us → SplitsFrom from (drop from text) us → Rest text (from + len + n) (tokens ++ t ∷ []) ts
 keeps_only text from tokens t len n ts [] so_far some is blanks e s =
     let first : is_blank (get_or (drop from text) 0 0) ≡ false = rw (get_or-drop, add-zero) (so_far.stands some) in
@@ -208,6 +217,7 @@ keeps_only text from tokens t len n ts (u ∷ us) so_far some is blanks e s =
     let after = after_blanks (from + len) rest n us blanks moved in
     (us, e ∙ ap (λ (v : Token). tokens ++ v ∷ us) one.0 ∙ simp append_assoc, subst (λ (r : List ℕ). SplitsFrom (from + len + n) r us) (drop-drop n (from + len) text) after)
 
+-- one token further, and past the blanks behind it
 pub split_more : (text : List ℕ) (from : ℕ) (tokens : List Token) (t : Token) (len n : ℕ) → IsSplitUpTo text from tokens → from < length text → IsTokenAt text from t len → n ≡ prefix_len is_blank (drop (from + len) text) → IsSplitUpTo text (from + len + n) (tokens ++ t ∷ [])
 split_more text from tokens t len n so_far some is blanks =
     let rest = drop (from + len) text in
@@ -225,6 +235,7 @@ split_more text from tokens t len n so_far some is blanks =
       only = λ ts s. (let w = so_far.only ts s in keeps_only text from tokens t len n ts w.0 so_far some is blanks w.1 w.2);
     }
 
+-- the empty text has no token
 nothing_begins : (at : ℕ) (ts : List Token) → SplitsFrom at [] ts → ts ≡ []
 nothing_begins at [] s = refl
 nothing_begins at (t ∷ ts) s =
@@ -238,6 +249,7 @@ split_ends text from tokens so_far end =
     let none = drop_all from text end in
     rw (← append-nil tokens) (so_far.found [] (subst (λ (r : List ℕ). SplitsFrom from r []) (sym none) refl))
 
+-- and no others are
 pub split_only : (text : List ℕ) (from : ℕ) (tokens others : List Token) → IsSplitUpTo text from tokens → length text ≤ from → Splits text others → others ≡ tokens
 split_only text from tokens others so_far end s =
     let w = so_far.only others s in

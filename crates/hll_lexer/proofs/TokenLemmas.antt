@@ -63,6 +63,7 @@ first_of_mark mark.And = (omega arith, refl, refl)
 first_of_mark mark.Or = (omega arith, refl, refl)
 first_of_mark mark.Implies = (omega arith, refl, refl)
 
+-- each mark is what its spelling is looked up as
 pub mark_of-spelling : (m : Mark) → mark_of (spelling m) ≡ Some m
 unfolding mark_of marks
 mark_of-spelling mark.Colon = refl
@@ -75,11 +76,13 @@ mark_of-spelling mark.And = refl
 mark_of-spelling mark.Or = refl
 mark_of-spelling mark.Implies = refl
 
+-- the bytes that are looked up as a mark are its spelling
 pub spelled_mark : (bytes : List ℕ) (m : Mark) → mark_of bytes ≡ Some m → bytes ≡ spelling m
 unfolding mark_of marks
 spelled_mark bytes m e =
     (bytes_eq-Decides bytes (spelling m)).0 (lookup_passes (λ b n. bytes_eq b (spelling n)) marks bytes m refl e)
 
+-- two marks at the front of one text are one
 same_mark : (m n : Mark) (more after : List ℕ) → spelling m ++ more ≡ spelling n ++ after → m ≡ n
 same_mark m n more after e =
     let here = get_or_append_left (spelling m) more 0 0 (first_of_mark m).0 in
@@ -96,6 +99,7 @@ marks_apart m n b more e =
 
 -- ---- words
 
+-- `IsWord` as a test
 abbrev is_word : List ℕ → Bool
 is_word [] = false
 is_word (b ∷ bs) = begins_word b && list_all continues_word bs
@@ -104,6 +108,7 @@ IsWord-from_test : (bytes : List ℕ) → is_word bytes ≡ true → IsWord byte
 IsWord-from_test [] e = absurd (both_ways _ refl e)
 IsWord-from_test (b ∷ bs) e = let both = and_parts _ _ e in (both.0, both.1)
 
+-- each reserved word is a word
 reserved_word : (bytes : List ℕ) (word : ReservedWord) → reserved_of bytes ≡ Some word → IsWord bytes
 unfolding reserved_of reserved_words
 reserved_word bytes word e = IsWord-from_test bytes (lookup_passes (λ b w. is_word b) reserved_words bytes word refl e)
@@ -121,9 +126,11 @@ first_of_word : (bytes : List ℕ) → IsWord bytes → (0 < length bytes) × (b
 first_of_word [] h = absurd h
 first_of_word (b ∷ bs) h = (omega arith, h.0)
 
+-- no word begins with a blank
 no_blank_begins : (b : ℕ) → begins_word b ≡ true → is_blank b ≡ false
 no_blank_begins b h = grind (arith, nat_tests)
 
+-- the bytes behind the first of a word continue it
 goes_on : (bytes : List ℕ) (b : ℕ) (more : List ℕ) → IsWord (bytes ++ b ∷ more) → 0 < length bytes → continues_word b ≡ true
 goes_on [] b more h some = absurd (omega arith)
 goes_on (c ∷ bytes) b more h some =
@@ -148,10 +155,12 @@ first_of_token bytes kind t =
       | inr w ↦ (let first : FirstOfMark bytes = subst FirstOfMark (sym w.1) (first_of_mark w.0) in (first.0, first.2))
     ]
 
+-- no word is a mark
 word_no_mark : (bytes : List ℕ) (m : Mark) → begins_word (get_or bytes 0 0) ≡ true → bytes ≡ spelling m → ⊥
 word_no_mark bytes m begins e =
     let first : FirstOfMark bytes = subst FirstOfMark (sym e) (first_of_mark m) in both_ways _ first.1 begins
 
+-- bytes are a token of one kind at most
 pub one_kind : (bytes : List ℕ) (kind other : TokenKind) → IsToken bytes kind → IsToken bytes other → kind ≡ other
 one_kind bytes kind other t u =
     elim (shape bytes kind t) [
