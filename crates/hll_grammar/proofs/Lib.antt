@@ -1,0 +1,9 @@
+pub mod Chains
+pub mod Ended
+pub mod Links
+pub mod OneExpression
+pub mod OneSection
+pub mod Operands
+pub mod ReadSection
+pub mod Sequences
+pub mod Within
