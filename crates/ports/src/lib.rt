@@ -9,7 +9,7 @@ mod fault;
 mod gate;
 mod sink;
 
-pub use desk::Desk;
+pub use desk::{Desk, put_all, read_text};
 pub use fault::{PortFault, ReadFault};
 pub use gate::{Gate, OpenGate};
 pub use sink::{Sink, write_all};
