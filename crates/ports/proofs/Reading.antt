@@ -28,31 +28,31 @@ length_taken : (n : ℕ) (xs : List ℕ) → n ≤ length xs → length (take n 
 length_taken n xs h = omega (arith, length-take n xs)
 
 -- one more read makes the front longer
-FrontOf_more : (file : Option (List ℕ)) (text buffer : List ℕ) (n : ℕ) → n ≤ length buffer → FrontOf file text → Reads file (length text) buffer n → FrontOf file (text ++ take n buffer)
-FrontOf_more None text buffer n fits f r = absurd r
-FrontOf_more (Some bytes) text buffer n fits f r =
+FrontOf_more : (file : Option (List ℕ)) (text buffer : List ℕ) (at n : ℕ) → at ≡ length text → n ≤ length buffer → FrontOf file text → Reads file at buffer n → FrontOf file (text ++ take n buffer)
+FrontOf_more None text buffer at n here fits f r = absurd r
+FrontOf_more (Some bytes) text buffer at n here fits f r =
     let longer : length (text ++ take n buffer) ≡ length text + n = length-append text (take n buffer) ∙ ap (λ k. length text + k) (length_taken n buffer fits) in
     let joined : text ++ take n buffer ≡ take (length text + n) bytes =
-        ap (λ t. t ++ take n buffer) f.front ∙ ap (λ t. take (length text) bytes ++ t) r.1 ∙ sym (take-add (length text) n bytes) in
+        ap (λ t. t ++ take n buffer) f.front ∙ ap (λ t. take (length text) bytes ++ t) (r.1 ∙ ap (λ k. take n (drop k bytes)) here) ∙ sym (take-add (length text) n bytes) in
     record { front = joined ∙ ap (λ k. take k bytes) (sym longer) }
 
 -- a read of nothing shows the end
-FrontOf_end : (file : Option (List ℕ)) (text buffer : List ℕ) → 0 < length buffer → FrontOf file text → Reads file (length text) buffer 0 → file ≡ Some text
-FrontOf_end None text buffer room f r = absurd r
-FrontOf_end (Some bytes) text buffer room f r =
-    ap (λ t. Some t) (sym (f.front ∙ take_all (length text) bytes ((r.2 room).0 refl)))
+FrontOf_end : (file : Option (List ℕ)) (text buffer : List ℕ) (at : ℕ) → at ≡ length text → 0 < length buffer → FrontOf file text → Reads file at buffer 0 → file ≡ Some text
+FrontOf_end None text buffer at here room f r = absurd r
+FrontOf_end (Some bytes) text buffer at here room f r =
+    ap (λ t. Some t) (sym (f.front ∙ take_all (length text) bytes (omega (arith, here, (r.2 room).0 refl))))
 
 -- a front that is longer than the limit shows that the file is
 FrontOf_long : (file : Option (List ℕ)) (text : List ℕ) (limit : ℕ) → limit < length text → FrontOf file text → ReadsText file limit (Err reading.Long)
-FrontOf_long None text limit long f = absurd (omega (arith, long, ap length f.front, length-take (length text) []))
+FrontOf_long None text limit long f = absurd (omega (arith, long, ap length f.front, length-take (length text) (let e : List ℕ = [] in e)))
 FrontOf_long (Some bytes) text limit long f = omega (arith, long, ap length f.front, length-take (length text) bytes)
 
 -- what a read said, at the files that were there at first
-same_reads : {X : Option (List ℕ) → Type 0} (first before now : Option Files) (name text : List ℕ) → GotFront first before name text → Tells before now (λ b n. SameFiles b n × X (b name)) → Tells first now (λ f n. SameFiles f n × FrontOf (f name) text × X (f name))
-same_reads None before now name text got read = tt
-same_reads (Some f) None now name text got read = absurd got
-same_reads (Some f) (Some b) None name text got read = absurd read
-same_reads {X} (Some f) (Some b) (Some n) name text got read =
+same_reads : (X : Option (List ℕ) → Type 0) (first before now : Option Files) (name text : List ℕ) → GotFront first before name text → Tells before now (λ b n. SameFiles b n × X (b name)) → Tells first now (λ f n. SameFiles f n × FrontOf (f name) text × X (f name))
+same_reads X None before now name text got read = tt
+same_reads X (Some f) None now name text got read = absurd got
+same_reads X (Some f) (Some b) None name text got read = absurd read
+same_reads X (Some f) (Some b) (Some n) name text got read =
     (λ other. read.0 other ∙ got.0 other, got.1, subst X (got.0 name) read.1)
 
 -- what holds of the told files follows
@@ -64,17 +64,17 @@ Tells_weaker (Some f) (Some n) step h = step f n h
 -- a read that failed leaves the front
 pub GotFront_fault : (first before now : Option Files) (name text : List ℕ) → GotFront first before name text → Tells before now (λ b n. SameFiles b n × Unit {0}) → GotFront first now name text
 GotFront_fault first before now name text got read =
-    Tells_weaker first now (λ f n h. (h.0, h.1)) (same_reads {X = λ _. Unit {0}} first before now name text got read)
+    Tells_weaker first now (λ f n h. (h.0, h.1)) (same_reads (λ _. Unit {0}) first before now name text got read)
 
 -- one more read makes the front longer
-pub GotFront_more : (first before now : Option Files) (name text buffer : List ℕ) (n : ℕ) → n ≤ length buffer → GotFront first before name text → Tells before now (λ x y. SameFiles x y × Reads (x name) (length text) buffer n) → GotFront first now name (text ++ take n buffer)
-GotFront_more first before now name text buffer n fits got read =
-    Tells_weaker first now (λ f x h. (h.0, FrontOf_more (f name) text buffer n fits h.1 h.2)) (same_reads {X = λ file. Reads file (length text) buffer n} first before now name text got read)
+pub GotFront_more : (first before now : Option Files) (name text buffer : List ℕ) (at n : ℕ) → at ≡ length text → n ≤ length buffer → GotFront first before name text → Tells before now (λ x y. SameFiles x y × Reads (x name) at buffer n) → GotFront first now name (text ++ take n buffer)
+GotFront_more first before now name text buffer at n here fits got read =
+    Tells_weaker first now (λ f x h. (h.0, FrontOf_more (f name) text buffer at n here fits h.1 h.2)) (same_reads (λ file. Reads file at buffer n) first before now name text got read)
 
 -- a read of nothing ends the reading
-pub GotFront_end : (first before now : Option Files) (name : List ℕ) (text : Vec ℕ Global) (buffer : List ℕ) (limit : ℕ) → 0 < length buffer → length text.items ≤ limit → GotFront first before name text.items → Tells before now (λ x y. SameFiles x y × Reads (x name) (length text.items) buffer 0) → Tells first now (λ x y. SameFiles x y × ReadsText (x name) limit (Ok text))
-GotFront_end first before now name text buffer limit room short got read =
-    Tells_weaker first now (λ f x h. (h.0, (FrontOf_end (f name) text.items buffer room h.1 h.2, short))) (same_reads {X = λ file. Reads file (length text.items) buffer 0} first before now name text.items got read)
+pub GotFront_end : (first before now : Option Files) (name : List ℕ) (text : Vec ℕ Global) (buffer : List ℕ) (limit at : ℕ) → at ≡ length text.items → 0 < length buffer → length text.items ≤ limit → GotFront first before name text.items → Tells before now (λ x y. SameFiles x y × Reads (x name) at buffer 0) → Tells first now (λ x y. SameFiles x y × ReadsText (x name) limit (Ok text))
+GotFront_end first before now name text buffer limit at here room short got read =
+    Tells_weaker first now (λ f x h. (h.0, (FrontOf_end (f name) text.items buffer at here room h.1 h.2, short))) (same_reads (λ file. Reads file at buffer 0) first before now name text.items got read)
 
 -- a front longer than the limit ends it too
 pub GotFront_long : (first now : Option Files) (name text : List ℕ) (limit : ℕ) → limit < length text → GotFront first now name text → Tells first now (λ x y. SameFiles x y × ReadsText (x name) limit (Err reading.Long))
