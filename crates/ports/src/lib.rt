@@ -7,9 +7,13 @@
 mod desk;
 mod fault;
 mod gate;
+mod memory_sink;
 mod sink;
+mod sure_sink;
 
 pub use desk::{Desk, put_all, read_text};
 pub use fault::{PortFault, ReadFault};
 pub use gate::{Gate, OpenGate};
+pub use memory_sink::MemorySink;
 pub use sink::{Sink, write_all};
+pub use sure_sink::SureSink;
