@@ -8,6 +8,7 @@ mod desk;
 mod fault;
 mod gate;
 mod memory_sink;
+mod named;
 mod sink;
 mod sure_sink;
 
