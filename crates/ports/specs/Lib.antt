@@ -1,5 +1,6 @@
 pub mod Causes
 pub mod Contents
+pub mod DeskState
 pub mod Faults
 pub mod Named
 pub mod Plans

@@ -4,8 +4,10 @@
 //! may tell what it holds, and then contracts say what each call reads and writes.
 #![tactic(auto)]
 
+mod copying;
 mod desk;
 mod fault;
+mod file_text;
 mod gate;
 mod memory_sink;
 mod named;
@@ -14,6 +16,7 @@ mod sure_sink;
 
 pub use desk::{Desk, put_all, read_text};
 pub use fault::{PortFault, ReadFault};
+pub use file_text::FileText;
 pub use gate::{Gate, OpenGate};
 pub use memory_sink::MemorySink;
 pub use sink::{Sink, write_all};
