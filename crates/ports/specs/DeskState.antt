@@ -1,10 +1,11 @@
 -- What contracts see of a desk in memory.
-use Rattle.std.specs.Prelude.{◌≢◌, ℕ, ◌-◌, List, AllPairs, Option, Some, None, IsSome, vec_len, vec_capacity}
+use Rattle.std.specs.Prelude.{◌≡◌, ◌≢◌, ℕ, ◌+◌, ◌-◌, ◌≤◌, List, ◌++◌, length, map, AllPairs, Option, Some, IsSome, Result, IsOk, MatchResult, vec_len, vec_capacity}
 use Rattle.std.specs.String.{string_bytes}
 use Rattle.std.specs.Option.{option_map, option_map_or}
+use Rattle.std.specs.declared.alloc.AllocError.{AllocError}
 use Rattle.ports.specs.declared.file_text.FileText.{FileText}
 use Rattle.ports.specs.Causes.{Counts}
-use Rattle.ports.specs.Contents.{Files, content_of}
+use Rattle.ports.specs.Contents.{Files, SameOtherFiles, content_of}
 use Rattle.ports.specs.Named.{first_named}
 
 -- a file: its name and its bytes
@@ -65,11 +66,22 @@ name_of f = string_bytes f.name
 abbrev pub named : FileText → NamedBytes
 named f = record { name = string_bytes f.name; bytes = f.bytes.items }
 
+-- the files of a list by their names
+abbrev pub files_in : List FileText → Files
+files_in files = file_of (map named files)
+
 -- how many more bytes a file takes with no new memory
-abbrev pub room_of : FileText → ℕ
-room_of f = vec_capacity f.bytes - vec_len f.bytes
+abbrev pub room_in : List FileText → List ℕ → ℕ
+room_in files name = option_map_or (λ f. vec_capacity f.bytes - vec_len f.bytes) (first_named name_of files name) 0
 
 -- the room of the file that was begun last
 abbrev pub begun_room : List FileText → Option (List ℕ) → ℕ
-begun_room files None = 0
-begun_room files (Some name) = option_map_or room_of (first_named name_of files name) 0
+begun_room files begun = option_map_or (room_in files) begun 0
+
+-- bytes were added to one file of a list, which keeps the room that they did not take; after want of memory the file is as before
+pub record Extends (before now : List FileText) (name piece : List ℕ) (result : Result Unit AllocError) : Type 0 where
+  pub others : SameOtherFiles name (files_in before) (files_in now)
+  pub other_room : (other : List ℕ) → other ≢ name → room_in now other ≡ room_in before other
+  pub stored : MatchResult result (λ _. files_in now name ≡ Some (content_of (files_in before name) ++ piece)) (λ _. files_in now name ≡ files_in before name)
+  pub room : MatchResult result (λ _. room_in before name ≤ room_in now name + length piece) (λ _. room_in before name ≤ room_in now name)
+  pub fits : IsSome (files_in before name) → length piece ≤ room_in before name → IsOk result

@@ -1,8 +1,7 @@
-ghost use Rattle.std.specs.Prelude.{List, ℕ, ◌≡◌, ◌∷◌, ◌++◌, [], OnOk, OnErr};
+ghost use Rattle.std.specs.Prelude.{List, ℕ};
 ghost use Rattle.std.specs.String.{string_bytes};
 
 use crate::named::Named;
-use std::alloc::{AllocError, Global};
 
 /// A file by its name and its bytes.
 #[derive(Debug, PartialEq, Eq, Drop)]
@@ -17,20 +16,4 @@ impl Named for FileText {
     fn name(&self) -> &str {
         self.name.as_str()
     }
-}
-
-/// Adds a file at the end.
-pub(crate) fn add_file(
-    files: &mut Vec<FileText>,
-    alloc: Global,
-    name: &str,
-    bytes: Vec<u8>,
-) -> Result<(), AllocError>
-    ensures ok { OnOk result ((f : _) × (files.new.items ≡ files.old.items ++ f ∷ [])
-        × (string_bytes f.name ≡ name.now) × (f.bytes ≡ bytes)) }
-    ensures err { OnErr result (files.new.items ≡ files.old.items) }
-{
-    let name = String::from_str(alloc, name)?;
-    files.push(FileText { name, bytes })?;
-    Ok(())
 }

@@ -7,11 +7,13 @@
 mod copying;
 mod desk;
 mod fault;
+mod file_list;
 mod file_text;
 mod gate;
 mod memory_sink;
 mod named;
 mod sink;
+mod sure_desk;
 mod sure_sink;
 
 pub use desk::{Desk, put_all, read_text};
@@ -20,4 +22,5 @@ pub use file_text::FileText;
 pub use gate::{Gate, OpenGate};
 pub use memory_sink::MemorySink;
 pub use sink::{Sink, write_all};
+pub use sure_desk::SureDesk;
 pub use sure_sink::SureSink;

@@ -1,4 +1,4 @@
-ghost use Rattle.std.specs.Prelude.{◌≡◌, ℕ, List};
+ghost use Rattle.std.specs.Prelude.{◌≡◌, ◌<◌, ℕ, List, length, IfSome};
 ghost use Rattle.ports.specs.Named.{IsPlaceOf};
 
 /// An entry of a list that has a name.
@@ -12,7 +12,8 @@ pub(crate) trait Named {
 
 /// The place of the first entry of a name.
 pub(crate) fn position_of<E: Named>(entries: &[E], name: &str) -> Option<usize>
-    ensures { IsPlaceOf E.key entries.now name.now result }
+    ensures place { IsPlaceOf E.key entries.now name.now result }
+    ensures within { IfSome result (λ place. place < length entries.now) }
 {
     for (place, entry) in entries.iter().enumerate() {
         if entry.name() == name {
