@@ -1,5 +1,5 @@
 -- The first entry of a name, after a change to the list.
-use Rattle.std.proofs.Common.{◌≡◌, ◌≢◌, ℕ, zero, suc, ◌+◌, ◌<◌, ◌≤◌, List, [], ◌∷◌, ◌++◌, length, get_or, set, Option, Some, None, Bool, true, false, cond, Decides, sym, ap, subst, ◌∙◌, refl, inl, inr, arith}
+use Rattle.std.proofs.Common.{◌≡◌, ◌≢◌, ℕ, zero, suc, ◌+◌, ◌<◌, ◌≤◌, List, [], ◌∷◌, ◌++◌, length, get_or, set, Option, Some, None, Bool, true, false, cond, Decides, IsSome, sym, ap, subst, ◌∙◌, refl, inl, inr, arith}
 use Rattle.std.proofs.lemmas.Slice.Eq.{bytes_eq-Decides}
 use Rattle.std.specs.List.{slice_get}
 use Rattle.std.specs.Str.{bytes_eq}
@@ -51,6 +51,11 @@ module _ {E : Type 0} (key : E → List ℕ) where
   first_named-IsFirst [] name i d h = absurd h
   first_named-IsFirst (e ∷ es) name zero d h = first_named_here e es name h
   first_named-IsFirst (e ∷ es) name (suc i) d h = first_named_past e es name h.0 ∙ first_named-IsFirst es name i d h.1
+
+  -- where there is a first, the look-up finds one
+  pub IsSome-IsFirst : (es : List E) (name : List ℕ) (i : ℕ) → IsFirst key es name i → IsSome (first_named key es name)
+  IsSome-IsFirst [] name i h = absurd h
+  IsSome-IsFirst (e ∷ es) name i h = subst IsSome (sym (first_named-IsFirst (e ∷ es) name i e h)) refl
 
   -- a name has one first place
   pub IsFirst-unique : (es : List E) (name : List ℕ) (i j : ℕ) → IsFirst key es name i → IsFirst key es name j → i ≡ j

@@ -7,6 +7,7 @@
 mod copying;
 mod desk;
 mod fault;
+mod fault_counts;
 mod file_list;
 mod file_text;
 mod gate;
