@@ -1,5 +1,5 @@
 -- The counts of names, after a change to their list.
-use Rattle.std.proofs.Common.{◌≡◌, ◌≢◌, ℕ, ◌<◌, List, [], ◌∷◌, ◌++◌, length, get_or, set, Option, Some, None, Result, Ok, Err, Bool, true, false, Decides, IsSome, ◌⊎◌, inl, inr, ⊎_elim, sym, ap, subst, ◌∙◌, refl}
+use Rattle.std.proofs.Common.{◌≡◌, ◌≢◌, ℕ, ◌≤◌, List, [], ◌∷◌, ◌++◌, length, get_or, set, Option, Some, None, Result, Ok, Err, Bool, true, false, Decides, IsSome, ◌⊎◌, inl, inr, ⊎_elim, sym, ap, subst, ◌∙◌, refl, arith}
 use Rattle.std.proofs.lemmas.Slice.Eq.{bytes_eq-Decides}
 use Rattle.std.specs.Option.{option_map_or, is_some}
 use Rattle.std.specs.Str.{bytes_eq}
@@ -94,17 +94,19 @@ module _ (counts : List NamedCounts) (name : List ℕ) (place : ℕ) (old w : Na
       (λ differs. subst IsSome (sym (first_named-set_other key counts name other place w here named_so differs)) there)
       (same_or_other other name)
 
-  pub Raises_reads : w.reads ≡ next_count old.reads → w.writes ≡ old.writes → Raises read_count write_count counts (set counts place w) name
-  Raises_reads reads writes = record {
+  pub Raises_reads : w.reads ≡ next_count old.reads → old.reads ≤ w.reads → w.writes ≡ old.writes → Raises read_count write_count counts (set counts place w) name
+  Raises_reads reads later writes = record {
     risen = count-set (λ c. c.reads) ∙ reads ∙ ap next_count (sym (count-before (λ c. c.reads)));
+    later = omega (arith, later, count-set (λ c. c.reads), count-before (λ c. c.reads));
     others = count-set_others (λ c. c.reads);
     same = count-set_all (λ c. c.writes) writes;
     kept = kept-set
   }
 
-  pub Raises_writes : w.reads ≡ old.reads → w.writes ≡ next_count old.writes → Raises write_count read_count counts (set counts place w) name
-  Raises_writes reads writes = record {
+  pub Raises_writes : w.writes ≡ next_count old.writes → old.writes ≤ w.writes → w.reads ≡ old.reads → Raises write_count read_count counts (set counts place w) name
+  Raises_writes writes later reads = record {
     risen = count-set (λ c. c.writes) ∙ writes ∙ ap next_count (sym (count-before (λ c. c.writes)));
+    later = omega (arith, later, count-set (λ c. c.writes), count-before (λ c. c.writes));
     others = count-set_others (λ c. c.writes);
     same = count-set_all (λ c. c.reads) reads;
     kept = kept-set

@@ -98,6 +98,7 @@ pub record Enters (before now : List NamedCounts) (name : List ℕ) (result : Re
 -- one count of a name has risen by one, and no other count has changed
 pub record Raises (count other_count : List NamedCounts → Counts) (before now : List NamedCounts) (name : List ℕ) : Type 0 where
   pub risen : count now name ≡ next_count (count before name)
+  pub later : count before name ≤ count now name
   pub others : SameOtherCounts name (count before) (count now)
   pub same : SameCounts (other_count before) (other_count now)
   pub kept : (other : List ℕ) → IsCounted before other → IsCounted now other

@@ -17,3 +17,9 @@ count_after (Err Memory) n = n
 abbrev pub KeepsRoom : Result ℕ PortFault → ℕ → ℕ → Type 0
 KeepsRoom (Ok n) before now = before ≤ now + n
 KeepsRoom (Err fault) before now = before ≤ now
+
+-- a call fails exactly where it was planned to, unless memory ran out
+abbrev pub FailsAsPlanned : {T : Type 0} → Type 0 → Result T PortFault → Type 0
+FailsAsPlanned planned (Ok value) = ¬ planned
+FailsAsPlanned planned (Err Failed) = planned
+FailsAsPlanned planned (Err Memory) = Unit {0}

@@ -1,4 +1,4 @@
-ghost use Rattle.std.specs.Prelude.{◌≡◌, [], List, ℕ};
+ghost use Rattle.std.specs.Prelude.{◌≡◌, ◌≤◌, [], List, ℕ};
 ghost use Rattle.ports.specs.DeskState.{Enters, Raises, IsCounted, read_count, write_count};
 ghost use Rattle.ports.specs.Plans.{next_count};
 
@@ -33,13 +33,15 @@ impl Named for NameCounts {
 
 impl NameCounts {
     fn raise_reads(&mut self)
-        ensures { self.new ≡ record self.old { reads = next_count self.old.reads } }
+        ensures risen { self.new ≡ record self.old { reads = next_count self.old.reads } }
+        ensures later { self.old.reads ≤ self.new.reads }
     {
         self.reads = self.reads.saturating_add(1);
     }
 
     fn raise_writes(&mut self)
-        ensures { self.new ≡ record self.old { writes = next_count self.old.writes } }
+        ensures risen { self.new ≡ record self.old { writes = next_count self.old.writes } }
+        ensures later { self.old.writes ≤ self.new.writes }
     {
         self.writes = self.writes.saturating_add(1);
     }
