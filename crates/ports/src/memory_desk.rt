@@ -6,6 +6,8 @@ ghost use Rattle.ports.specs.DeskState.{file_of, named, NamesDiffer, read_count,
 ghost use Rattle.ports.specs.Plans.{next_count, count_after, FailsAsPlanned, KeepsRoom};
 ghost use Rattle.ports.specs.declared.fault.PortFault.TheVariants as fault;
 
+use crate::copying::copy_from;
+use crate::desk::Desk;
 use crate::fault::PortFault;
 use crate::fault_counts::FaultCounts;
 use crate::file_text::FileText;
@@ -104,6 +106,7 @@ impl MemoryDesk {
         ensures other_writes { SameOtherCounts name.now (write_count self.old.counts) (write_count self.new.counts) }
         ensures reads { SameCounts (read_count self.old.counts) (read_count self.new.counts) }
         ensures room { IsCounted self.old.counts name.now → result ≡ fault.Failed }
+        ensures begun { self.old.begun ≡ Some name.now → result ≡ fault.Failed }
         ensures same { self.new ≡ record self.old { counts = self.new.counts } }
     {
         if self.counts.enter(name).is_err() {
@@ -111,5 +114,93 @@ impl MemoryDesk {
         }
         self.counts.raise_writes(name);
         PortFault::Failed
+    }
+}
+
+impl Desk for MemoryDesk {
+    ghost told = { λ d. Some (file_of d.files) };
+
+    ghost read_faults = { λ d. read_count d.counts };
+
+    ghost write_faults = { λ d. write_count d.counts };
+
+    /// Gives as many bytes as the file and the buffer have, unless the call is to fail.
+    fn get(&mut self, name: &str, at: u64, into: &mut [u8]) -> Result<usize, PortFault>
+        ensures within { IfOk result (λ n. n ≤ length into.new) }
+        ensures bytes { Tells (Some (file_of self.old.files)) (Some (file_of self.new.files)) (λ before now.
+            SameFiles before now × IfOk result (Reads (before name.now) at into.new)) }
+        ensures cause { HasCause (read_count self.old.counts name.now) (read_count self.new.counts name.now) result }
+        ensures other_reads { SameOtherCounts name.now (read_count self.old.counts) (read_count self.new.counts) }
+        ensures writes { SameCounts (write_count self.old.counts) (write_count self.new.counts) }
+        ensures most { IfOk result (λ n. n ≡ min (length (drop at (content_of (file_of self.old.files name.now)))) (length into.old)) }
+
+        // When it fails, and when it needs memory for that.
+        ensures planned { IsErr result
+            ↔ (Contains self.old.fails (next_count self.old.calls) ⊎ (file_of self.old.files name.now ≡ None)) }
+        ensures faults { read_count self.new.counts name.now ≡ count_after result (read_count self.old.counts name.now) }
+        ensures room { IsCounted self.old.counts name.now → ¬ (IsErrOf result fault.Memory) }
+        ensures same { self.new ≡ record self.old { calls = next_count self.old.calls; counts = self.new.counts } }
+    {
+        let fails = self.next_call();
+        match self.desk.file(name) {
+            Some(bytes) if !fails => Ok(copy_from(bytes, at, into)),
+            _ => Err(self.failed_read(name)),
+        }
+    }
+
+    /// Makes the named file empty, and it is then the one that was begun last.
+    fn begin(&mut self, name: &str) -> Result<(), PortFault>
+        ensures bytes { Tells (Some (file_of self.old.files)) (Some (file_of self.new.files)) (λ before now.
+            SameOtherFiles name.now before now × Begins result (before name.now) (now name.now)) }
+        ensures cause { HasCause (write_count self.old.counts name.now) (write_count self.new.counts name.now) result }
+        ensures other_writes { SameOtherCounts name.now (write_count self.old.counts) (write_count self.new.counts) }
+        ensures reads { SameCounts (read_count self.old.counts) (read_count self.new.counts) }
+
+        // When it fails.
+        ensures planned { FailsAsPlanned (Contains self.old.fails (next_count self.old.calls)) result }
+        ensures calls { self.new.calls ≡ next_count self.old.calls }
+        ensures plan { self.new.fails ≡ self.old.fails }
+        ensures faults { write_count self.new.counts name.now ≡ count_after result (write_count self.old.counts name.now) }
+
+        // The file that was begun last.
+        ensures begun { OnOk result (self.new.begun ≡ Some name.now) }
+        ensures counted { OnOk result (IsCounted self.new.counts name.now) }
+        ensures err { OnErr result ((self.new.begun ≡ self.old.begun) × (self.new.spare ≡ self.old.spare)) }
+    {
+        let fails = self.next_call();
+        self.counts.enter(name)?;
+        if fails {
+            self.counts.raise_writes(name);
+            return Err(PortFault::Failed);
+        }
+        self.desk.begin(name)
+    }
+
+    /// Takes the whole piece, unless the call is to fail or there is no memory for it.
+    fn put(&mut self, name: &str, piece: &[u8]) -> Result<usize, PortFault>
+        ensures taken { IfOk result (TakesSome piece.now) }
+        ensures bytes { Tells (Some (file_of self.old.files)) (Some (file_of self.new.files)) (λ before now.
+            SameOtherFiles name.now before now × Puts piece.now result (before name.now) (now name.now)) }
+        ensures cause { HasCause (write_count self.old.counts name.now) (write_count self.new.counts name.now) result }
+        ensures other_writes { SameOtherCounts name.now (write_count self.old.counts) (write_count self.new.counts) }
+        ensures reads { SameCounts (read_count self.old.counts) (read_count self.new.counts) }
+        ensures whole { IfOk result (λ n. n ≡ length piece.now) }
+
+        // When it fails.
+        ensures planned { FailsAsPlanned (Contains self.old.fails (next_count self.old.calls)) result }
+        ensures calls { self.new.calls ≡ next_count self.old.calls }
+        ensures plan { self.new.fails ≡ self.old.fails }
+        ensures faults { write_count self.new.counts name.now ≡ count_after result (write_count self.old.counts name.now) }
+
+        // The file that was begun last, and its room.
+        ensures begun { self.new.begun ≡ self.old.begun }
+        ensures room { self.old.begun ≡ Some name.now → length piece.now ≤ self.old.spare
+            → ¬ (IsErrOf result fault.Memory) }
+        ensures spare { KeepsRoom result self.old.spare self.new.spare }
+    {
+        if self.next_call() {
+            return Err(self.failed_write(name));
+        }
+        self.desk.put(name, piece)
     }
 }
