@@ -1,8 +1,10 @@
-ghost use Rattle.std.specs.Prelude.{◌≡◌, ◌≤◌, [], length, None, IfOk};
+ghost use Rattle.std.specs.Prelude.{◌≡◌, ◌≤◌, [], length, None, IfOk, IsErrOf};
 ghost use Rattle.std.specs.Io.{WritesAtMost};
 ghost use Rattle.ports.specs.Causes.{HasCause, SameCounts, SameOtherCounts};
 ghost use Rattle.ports.specs.Contents.{TakesSome};
-ghost use Rattle.ports.specs.DeskState.{read_count, write_count};
+ghost use Rattle.ports.specs.DeskState.{read_count, write_count, IsCounted};
+ghost use Rattle.ports.specs.Plans.{count_after};
+ghost use Rattle.ports.specs.declared.fault.PortFault.TheVariants as fault;
 
 use crate::desk::Desk;
 use crate::fault::PortFault;
@@ -48,7 +50,14 @@ impl<R: Files> Desk for FileDesk<R> {
     ghost write_faults = { λ counts. write_count counts };
 
     /// Opens the file and reads it once. It takes the memory for the name's counts before.
-    fn get(&mut self, name: &str, at: u64, into: &mut [u8]) -> Result<usize, PortFault> {
+    fn get(&mut self, name: &str, at: u64, into: &mut [u8]) -> Result<usize, PortFault>
+        ensures within { IfOk result (λ n. n ≤ length into.new) }
+        ensures cause { HasCause (read_count self.old name.now) (read_count self.new name.now) result }
+        ensures other_reads { SameOtherCounts name.now (read_count self.old) (read_count self.new) }
+        ensures writes { SameCounts (write_count self.old) (write_count self.new) }
+        ensures faults { read_count self.new name.now ≡ count_after result (read_count self.old name.now) }
+        ensures room { IsCounted self.old name.now → ¬ (IsErrOf result fault.Memory) }
+    {
         self.counts.enter(name)?;
         match read_once(&self.rt, name, at, into) {
             Ok(count) => Ok(count),
@@ -60,7 +69,13 @@ impl<R: Files> Desk for FileDesk<R> {
     }
 
     /// Creates the file, or empties it. It takes the memory for the name's counts before.
-    fn begin(&mut self, name: &str) -> Result<(), PortFault> {
+    fn begin(&mut self, name: &str) -> Result<(), PortFault>
+        ensures cause { HasCause (write_count self.old name.now) (write_count self.new name.now) result }
+        ensures other_writes { SameOtherCounts name.now (write_count self.old) (write_count self.new) }
+        ensures reads { SameCounts (read_count self.old) (read_count self.new) }
+        ensures faults { write_count self.new name.now ≡ count_after result (write_count self.old name.now) }
+        ensures room { IsCounted self.old name.now → ¬ (IsErrOf result fault.Memory) }
+    {
         self.counts.enter(name)?;
         match fs::create(&self.rt, name) {
             Ok(_) => Ok(()),
@@ -73,7 +88,14 @@ impl<R: Files> Desk for FileDesk<R> {
 
     /// Opens the file and writes once. It takes the memory for the name's counts before, and a write
     /// that takes nothing of a piece that has something is a fault.
-    fn put(&mut self, name: &str, piece: &[u8]) -> Result<usize, PortFault> {
+    fn put(&mut self, name: &str, piece: &[u8]) -> Result<usize, PortFault>
+        ensures taken { IfOk result (TakesSome piece.now) }
+        ensures cause { HasCause (write_count self.old name.now) (write_count self.new name.now) result }
+        ensures other_writes { SameOtherCounts name.now (write_count self.old) (write_count self.new) }
+        ensures reads { SameCounts (read_count self.old) (read_count self.new) }
+        ensures faults { write_count self.new name.now ≡ count_after result (write_count self.old name.now) }
+        ensures room { IsCounted self.old name.now → ¬ (IsErrOf result fault.Memory) }
+    {
         self.counts.enter(name)?;
         match append_once(&self.rt, name, piece) {
             Ok(count) if count > 0 || piece.is_empty() => Ok(count),

@@ -31,3 +31,6 @@ pub use out_sink::OutSink;
 pub use sink::{Sink, write_all};
 pub use sure_desk::SureDesk;
 pub use sure_sink::SureSink;
+
+#[cfg(test)]
+mod tests;

@@ -1,6 +1,8 @@
-ghost use Rattle.std.specs.Prelude.{◌≡◌, None};
+ghost use Rattle.std.specs.Prelude.{◌≡◌, None, IfOk, IsErrOf};
 ghost use Rattle.ports.specs.Causes.{HasCause};
 ghost use Rattle.ports.specs.Contents.{TakesSome};
+ghost use Rattle.ports.specs.Plans.{count_after};
+ghost use Rattle.ports.specs.declared.fault.PortFault.TheVariants as fault;
 
 use crate::fault::PortFault;
 use crate::sink::Sink;
@@ -36,7 +38,12 @@ impl<R: Print> Sink for OutSink<R> {
     ghost faults = { λ faults. faults };
 
     /// Writes once. A write that takes nothing of a piece that has something is a fault.
-    fn write(&mut self, piece: &[u8]) -> Result<usize, PortFault> {
+    fn write(&mut self, piece: &[u8]) -> Result<usize, PortFault>
+        ensures taken { IfOk result (TakesSome piece.now) }
+        ensures cause { HasCause self.old self.new result }
+        ensures faults { self.new ≡ count_after result self.old }
+        ensures room { ¬ (IsErrOf result fault.Memory) }
+    {
         match io::writer(&self.rt).write(piece) {
             Ok(count) if count > 0 || piece.is_empty() => Ok(count),
             _ => {
