@@ -1,5 +1,4 @@
-ghost use Rattle.std.specs.Prelude.{◌≡◌, ◌≢◌, IfOk, [], ◌∷◌, length};
-ghost use Rattle.std.specs.String.{string_bytes};
+ghost use Rattle.std.specs.Prelude.{◌≡◌, IfOk, Some, length};
 
 use crate::{
     Desk, FileDesk, FileText, Gate, MemoryDesk, MemorySink, OpenGate, OutSink, PortFault, ReadFault,
@@ -8,13 +7,13 @@ use crate::{
 use std::alloc::{AllocError, Global};
 use std::test::Fail;
 
-/// A file of `length` sevens.
-fn sevens(alloc: Global, name: &str, length: usize) -> Result<Vec<FileText>, AllocError>
+/// A file of `size` sevens.
+fn sevens(alloc: Global, name: &str, size: usize) -> Result<Vec<FileText>, AllocError>
     ensures { IfOk result (λ files. length files.items ≡ 1) }
 {
     let file = FileText {
         name: String::from_str(alloc, name)?,
-        bytes: vec![in alloc; 7u8; length]?,
+        bytes: vec![in alloc; 7u8; size]?,
     };
     Ok(vec![in alloc; file]?)
 }
