@@ -1,11 +1,12 @@
 -- The counts of names, after a change to their list.
-use Rattle.std.proofs.Common.{◌≡◌, ◌≢◌, ℕ, ◌≤◌, List, [], ◌∷◌, ◌++◌, length, get_or, set, Option, Some, None, Result, Ok, Err, Bool, true, false, Decides, IsSome, ◌⊎◌, inl, inr, ⊎_elim, sym, ap, subst, ◌∙◌, refl, arith}
+use Rattle.std.proofs.Common.{◌≡◌, ◌≢◌, ℕ, ◌≤◌, List, [], ◌∷◌, ◌++◌, get_or, set, Option, Some, None, Ok, Bool, true, false, Decides, IsSome, ◌⊎◌, inl, inr, ⊎_elim, sym, ap, subst, ◌∙◌, refl, arith}
 use Rattle.std.proofs.lemmas.Slice.Eq.{bytes_eq-Decides}
 use Rattle.std.specs.Option.{option_map_or, is_some}
 use Rattle.std.specs.Str.{bytes_eq}
 use Rattle.ports.specs.Causes.{SameCounts, SameOtherCounts}
 use Rattle.ports.specs.Named.{first_named, IsFirst, IsPlaceOf}
-use Rattle.ports.specs.DeskState.{NamedCounts, read_count, write_count, IsCounted, Enters, Raises}
+use Rattle.ports.specs.DeskState.{NamedCounts, read_count, write_count, IsCounted}
+use Rattle.ports.specs.DeskSteps.{Enters, Raises}
 use Rattle.ports.specs.Plans.{next_count}
 use Rattle.ports.proofs.NamedLemmas.{IsSome-IsFirst, IsFirst-key, first_named-IsFirst, first_named-set_same, first_named-set_other, first_named-push_same, first_named-push_other}
 
@@ -40,7 +41,11 @@ new_from_place counts name (Some i) h missing = absurd (true_false missing) wher
 -- a name that has counts keeps them
 pub Enters_there : (counts : List NamedCounts) (name : List ℕ) → IsCounted counts name → Enters counts counts name (Ok tt)
 Enters_there counts name there = record {
-  reads = λ _. refl; writes = λ _. refl; counted = there; kept = λ _ h. h; room = λ _. refl
+  reads = λ _. refl;
+  writes = λ _. refl;
+  counted = there;
+  kept = λ _ h. h;
+  room = λ _. refl;
 }
 
 module _ (counts : List NamedCounts) (name : List ℕ) (w : NamedCounts) (new : first_named key counts name ≡ None) (same : w.name ≡ name) where
@@ -66,7 +71,7 @@ module _ (counts : List NamedCounts) (name : List ℕ) (w : NamedCounts) (new : 
     writes = count-push (λ c. c.writes) writes;
     counted = counted-push;
     kept = kept-push;
-    room = λ _. refl
+    room = λ _. refl;
   }
 
 module _ (counts : List NamedCounts) (name : List ℕ) (place : ℕ) (old w : NamedCounts) (here : IsFirst key counts name place) (was : old ≡ get_or counts place old) (same : w.name ≡ old.name) where
@@ -100,7 +105,7 @@ module _ (counts : List NamedCounts) (name : List ℕ) (place : ℕ) (old w : Na
     later = omega (arith, later, count-set (λ c. c.reads), count-before (λ c. c.reads));
     others = count-set_others (λ c. c.reads);
     same = count-set_all (λ c. c.writes) writes;
-    kept = kept-set
+    kept = kept-set;
   }
 
   pub Raises_writes : w.writes ≡ next_count old.writes → old.writes ≤ w.writes → w.reads ≡ old.reads → Raises write_count read_count counts (set counts place w) name
@@ -109,5 +114,5 @@ module _ (counts : List NamedCounts) (name : List ℕ) (place : ℕ) (old w : Na
     later = omega (arith, later, count-set (λ c. c.writes), count-before (λ c. c.writes));
     others = count-set_others (λ c. c.writes);
     same = count-set_all (λ c. c.reads) reads;
-    kept = kept-set
+    kept = kept-set;
   }

@@ -1,5 +1,5 @@
 -- The files of a list by their names, after a change to the list.
-use Rattle.std.proofs.Common.{◌≡◌, ◌≢◌, ℕ, ◌+◌, ◌-◌, ◌<◌, ◌≤◌, List, [], ◌∷◌, ◌++◌, length, get_or, set, Option, Some, None, Result, Ok, Err, Bool, true, false, cond, IsSome, sym, ap, subst, ◌∙◌, refl, arith, vec_len, vec_capacity}
+use Rattle.std.proofs.Common.{◌≡◌, ◌≢◌, ℕ, ◌+◌, ◌-◌, ◌<◌, ◌≤◌, List, [], ◌∷◌, ◌++◌, length, get_or, set, Option, Some, None, Ok, Err, Bool, true, false, cond, IsSome, sym, ap, subst, ◌∙◌, refl, arith, vec_len, vec_capacity}
 use Rattle.std.proofs.lemmas.List.{map-set, set-get_or}
 use Rattle.std.specs.Prelude.{map}
 use Rattle.std.specs.Option.{option_map, option_map_or}
@@ -11,7 +11,8 @@ use Rattle.std.specs.declared.alloc.AllocError.{AllocError}
 use Rattle.ports.specs.declared.file_text.FileText.{FileText}
 use Rattle.ports.specs.Contents.{SameOtherFiles, content_of}
 use Rattle.ports.specs.Named.{first_named, IsFirst}
-use Rattle.ports.specs.DeskState.{NamedBytes, named, name_of, file_of, files_in, room_in, Extends}
+use Rattle.ports.specs.DeskState.{NamedBytes, named, name_of, files_in, room_in}
+use Rattle.ports.specs.DeskSteps.{Extends}
 use Rattle.ports.proofs.NamedLemmas.{IsFirst-key, first_named-IsFirst, first_named-set_same, first_named-set_other, first_named-push_same, first_named-push_other}
 
 -- what a look-up in the list as contracts see it finds
@@ -96,7 +97,7 @@ module _ (files : List FileText) (name : List ℕ) (place : ℕ) (f : FileText) 
     other_room = room_in-set_others files name place (with_bytes f bytes) at.here at.same;
     stored = files_in-set files name place (with_bytes f bytes) at.here at.same ∙ ap (λ b. Some b) items ∙ ap (λ o. Some (content_of o ++ piece)) (sym files_in-found);
     room = omega (arith, room_in-found, room_in-set files name place (with_bytes f bytes) at.here at.same, len, capacity);
-    fits = λ _ _. refl
+    fits = λ _ _. refl;
   }
 
   pub Extends-found_err : (bytes : Vec ℕ Global) (piece : List ℕ) (e : AllocError) → bytes.items ≡ f.bytes.items → vec_len bytes ≡ vec_len f.bytes → vec_capacity f.bytes ≤ vec_capacity bytes → vec_capacity f.bytes < vec_len f.bytes + length piece → Extends files (set files place (with_bytes f bytes)) name piece (Err e)
@@ -105,7 +106,7 @@ module _ (files : List FileText) (name : List ℕ) (place : ℕ) (f : FileText) 
     other_room = room_in-set_others files name place (with_bytes f bytes) at.here at.same;
     stored = files_in-set files name place (with_bytes f bytes) at.here at.same ∙ ap (λ b. Some b) items ∙ sym files_in-found;
     room = omega (arith, room_in-found, room_in-set files name place (with_bytes f bytes) at.here at.same, len, capacity);
-    fits = λ _ short. absurd (omega (arith, room_in-found, full, short, f.bytes.ok.1))
+    fits = λ _ short. absurd (omega (arith, room_in-found, full, short, f.bytes.ok.1));
   }
 
 module _ (files : List FileText) (name piece : List ℕ) (new : first_named name_of files name ≡ None) where
@@ -115,7 +116,7 @@ module _ (files : List FileText) (name piece : List ℕ) (new : first_named name
     other_room = room_in-push_others files name w new same;
     stored = files_in-push files name w new same ∙ ap (λ b. Some b) items ∙ ap (λ o. Some (content_of o ++ piece)) (sym (files_in-none files name new));
     room = omega (arith, room_in-none files name new);
-    fits = λ _ _. refl
+    fits = λ _ _. refl;
   }
 
   pub Extends-none_err : (e : AllocError) → Extends files files name piece (Err e)
@@ -124,7 +125,7 @@ module _ (files : List FileText) (name piece : List ℕ) (new : first_named name
     other_room = λ _ _. refl;
     stored = refl;
     room = omega arith;
-    fits = λ there _. absurd (not_there (files_in files name) (files_in-none files name new) there)
+    fits = λ there _. absurd (not_there (files_in files name) (files_in-none files name new) there);
   } where
     not_there : (o : Option (List ℕ)) → o ≡ None → IsSome o → ⊥
     not_there None e there = cc

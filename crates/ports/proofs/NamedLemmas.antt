@@ -1,9 +1,8 @@
 -- The first entry of a name, after a change to the list.
-use Rattle.std.proofs.Common.{◌≡◌, ◌≢◌, ℕ, zero, suc, ◌+◌, ◌<◌, ◌≤◌, List, [], ◌∷◌, ◌++◌, length, get_or, set, Option, Some, None, Bool, true, false, cond, Decides, IsSome, sym, ap, subst, ◌∙◌, refl, inl, inr, arith}
+use Rattle.std.proofs.Common.{◌≡◌, ◌≢◌, ℕ, zero, suc, ◌<◌, List, [], ◌∷◌, ◌++◌, length, get_or, set, Some, None, Bool, true, false, cond, Decides, IsSome, sym, ap, subst, ◌∙◌, refl, arith}
 use Rattle.std.proofs.lemmas.Slice.Eq.{bytes_eq-Decides}
-use Rattle.std.specs.List.{slice_get}
 use Rattle.std.specs.Str.{bytes_eq}
-use Rattle.ports.specs.Named.{first_named, IsFirst, IsPlaceOf}
+use Rattle.ports.specs.Named.{first_named, IsFirst}
 
 bytes_eq_same : (a b : List ℕ) → a ≡ b → bytes_eq a b ≡ true
 bytes_eq_same a b e = (bytes_eq-Decides a b).1 e

@@ -1,12 +1,11 @@
 -- The front of a file has been read.
-use Rattle.std.proofs.Common.{◌≡◌, ℕ, ◌+◌, ◌<◌, ◌≤◌, ◌^◌, List, [], ◌++◌, length, take, drop, Option, Some, None, Result, Ok, Err, IfOk, sym, ap, subst, ◌∙◌, refl, arith, length-take, length-drop, length-append}
+use Rattle.std.proofs.Common.{◌≡◌, ℕ, ◌+◌, ◌<◌, ◌≤◌, List, [], ◌++◌, length, take, drop, Option, Some, None, Ok, Err, sym, ap, subst, ◌∙◌, refl, arith, length-take, length-append}
 use Rattle.std.proofs.lemmas.List.{take_all}
 use Rattle.std.proofs.Math.Seq.{take-add}
 use Rattle.std.specs.declared.vec.Vec.{Vec}
 use Rattle.std.specs.declared.alloc.Global.{Global}
 use Rattle.ports.specs.declared.fault.PortFault.{PortFault}
 use Rattle.ports.specs.declared.fault.PortFault.TheVariants as port
-use Rattle.ports.specs.declared.fault.ReadFault.{ReadFault}
 use Rattle.ports.specs.declared.fault.ReadFault.TheVariants as reading
 use Rattle.ports.specs.Faults.{read_fault_of}
 use Rattle.ports.specs.Contents.{Files, Tells, SameFiles, content_of, Reads, ReadsText}
@@ -33,7 +32,7 @@ FrontOf_more None text buffer at n here fits f r = absurd r
 FrontOf_more (Some bytes) text buffer at n here fits f r =
     let longer : length (text ++ take n buffer) ≡ length text + n = length-append text (take n buffer) ∙ ap (λ k. length text + k) (length_taken n buffer fits) in
     let joined : text ++ take n buffer ≡ take (length text + n) bytes =
-        ap (λ t. t ++ take n buffer) f.front ∙ ap (λ t. take (length text) bytes ++ t) (r.1 ∙ ap (λ k. take n (drop k bytes)) here) ∙ sym (take-add (length text) n bytes) in
+    ap (λ t. t ++ take n buffer) f.front ∙ ap (λ t. take (length text) bytes ++ t) (r.1 ∙ ap (λ k. take n (drop k bytes)) here) ∙ sym (take-add (length text) n bytes) in
     record { front = joined ∙ ap (λ k. take k bytes) (sym longer) }
 
 -- a read of nothing shows the end

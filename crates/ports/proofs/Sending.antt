@@ -1,5 +1,5 @@
 -- A part of the bytes has gone out, and a rest is left.
-use Rattle.std.proofs.Common.{◌≡◌, ℕ, ◌+◌, ◌≤◌, List, [], ◌∷◌, ◌++◌, length, take, drop, Option, Some, None, Ok, Err, sym, ap, ◌∙◌, refl, append_assoc, take-append-drop}
+use Rattle.std.proofs.Common.{◌≡◌, ℕ, List, [], ◌++◌, length, take, drop, Option, Some, None, Ok, Err, sym, ap, ◌∙◌, refl, append_assoc, take-append-drop}
 use Rattle.std.proofs.lemmas.List.{append-nil, take_at}
 use Rattle.ports.specs.declared.fault.PortFault.{PortFault}
 use Rattle.ports.specs.Contents.{Tells, Appends, AppendsAll}
@@ -20,10 +20,11 @@ Sent_more None before now bytes rest n s w =
     (s.0 ++ take n rest, s.1 ∙ ap (λ r. s.0 ++ r) (sym (take-append-drop n rest)) ∙ sym (append_assoc s.0 (take n rest) (drop n rest)), tt)
 Sent_more (Some b) None now bytes rest n s w = absurd s.2
 Sent_more (Some b) (Some m) None bytes rest n s w = absurd w
-Sent_more (Some b) (Some m) (Some c) bytes rest n s w =
-    (s.0 ++ take n rest,
-     s.1 ∙ ap (λ r. s.0 ++ r) (sym (take-append-drop n rest)) ∙ sym (append_assoc s.0 (take n rest) (drop n rest)),
-     w ∙ ap (λ x. x ++ take n rest) s.2 ∙ append_assoc b s.0 (take n rest))
+Sent_more (Some b) (Some m) (Some c) bytes rest n s w = (
+  s.0 ++ take n rest,
+  s.1 ∙ ap (λ r. s.0 ++ r) (sym (take-append-drop n rest)) ∙ sym (append_assoc s.0 (take n rest) (drop n rest)),
+  w ∙ ap (λ x. x ++ take n rest) s.2 ∙ append_assoc b s.0 (take n rest),
+)
 
 -- a fault leaves what was sent
 pub Sent_fault : (first before now : Option (List ℕ)) (bytes rest : List ℕ) (fault e : PortFault) → Sent first before bytes rest → Tells before now (Appends rest (Err fault)) → Tells first now (AppendsAll bytes (Err e))

@@ -1,5 +1,6 @@
 ghost use Rattle.std.specs.Prelude.{◌≡◌, ◌≤◌, [], List, ℕ};
-ghost use Rattle.ports.specs.DeskState.{Enters, Raises, IsCounted, read_count, write_count};
+ghost use Rattle.ports.specs.DeskState.{IsCounted, read_count, write_count};
+ghost use Rattle.ports.specs.DeskSteps.{Enters, Raises};
 ghost use Rattle.ports.specs.Plans.{next_count};
 
 use crate::named::{Named, position_of};

@@ -2,7 +2,8 @@ ghost use Rattle.std.specs.Prelude.{◌≡◌, ◌≤◌, [], ◌∷◌, ◌++�
 ghost use Rattle.std.specs.Option.{option_copied};
 ghost use Rattle.std.specs.String.{string_bytes};
 ghost use Rattle.ports.specs.Contents.{SameOtherFiles};
-ghost use Rattle.ports.specs.DeskState.{named, files_in, room_in, Extends};
+ghost use Rattle.ports.specs.DeskState.{named, files_in, room_in};
+ghost use Rattle.ports.specs.DeskSteps.{Extends};
 
 use crate::file_text::FileText;
 use crate::named::position_of;
@@ -17,7 +18,11 @@ pub(crate) fn bytes_of<'a>(files: &'a [FileText], name: &str) -> Option<&'a [u8]
 }
 
 /// Makes a file empty, or adds an empty one.
-pub(crate) fn empty_file(files: &mut Vec<FileText>, alloc: Global, name: &str) -> Result<(), AllocError>
+pub(crate) fn empty_file(
+    files: &mut Vec<FileText>,
+    alloc: Global,
+    name: &str,
+) -> Result<(), AllocError>
     ensures others { SameOtherFiles name.now (files_in files.old.items) (files_in files.new.items) }
     ensures emptied { OnOk result (files_in files.new.items name.now ≡ Some []) }
     ensures err { OnErr result (files.new.items ≡ files.old.items) }
@@ -49,7 +54,11 @@ pub(crate) fn extend_file(
 }
 
 /// Makes room for more bytes in a file.
-pub(crate) fn reserve_in(files: &mut Vec<FileText>, name: &str, more: usize) -> Result<(), AllocError>
+pub(crate) fn reserve_in(
+    files: &mut Vec<FileText>,
+    name: &str,
+    more: usize,
+) -> Result<(), AllocError>
     requires { IsSome (files_in files.old.items name.now) }
     ensures room { OnOk result (more ≤ room_in files.new.items name.now) }
     ensures kept { room_in files.old.items name.now ≤ room_in files.new.items name.now }

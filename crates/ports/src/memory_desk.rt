@@ -30,8 +30,14 @@ impl Model for MemoryDesk {
 
     ghost Value = { PlannedFiles };
 
-    ghost view = { λ d. record { files = d.desk.files; counts = d.counts; calls = d.calls; fails = d.fails.items;
-        begun = d.desk.begun; spare = d.desk.spare } };
+    ghost view = { λ d. record {
+      files = d.desk.files;
+      counts = d.counts;
+      calls = d.calls;
+      fails = d.fails.items;
+      begun = d.desk.begun;
+      spare = d.desk.spare;
+    } };
 
     ghost invariant = { λ d. IfSome d.desk.begun (λ name. IsCounted d.counts name) };
 }

@@ -24,8 +24,13 @@ impl Model for MemorySink {
 
     ghost Value = { PlannedOutput };
 
-    ghost view = { λ s. record { bytes = s.bytes.items; calls = s.calls; fails = s.fails.items;
-        faults = s.faults; spare = vec_capacity s.bytes - vec_len s.bytes } };
+    ghost view = { λ s. record {
+      bytes = s.bytes.items;
+      calls = s.calls;
+      fails = s.fails.items;
+      faults = s.faults;
+      spare = vec_capacity s.bytes - vec_len s.bytes;
+    } };
 }
 
 impl MemorySink {

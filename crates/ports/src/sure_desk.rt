@@ -30,8 +30,11 @@ impl Model for SureDesk {
 
     ghost Value = { SureFiles };
 
-    ghost view = { λ d. record { files = map named d.files.items; begun = option_map string_bytes d.begun;
-        spare = begun_room d.files.items (option_map string_bytes d.begun) } };
+    ghost view = { λ d. record {
+      files = map named d.files.items;
+      begun = option_map string_bytes d.begun;
+      spare = begun_room d.files.items (option_map string_bytes d.begun);
+    } };
 
     ghost invariant = { λ d. IfSome d.begun (λ name. IsSome (files_in d.files.items (string_bytes name))) };
 }

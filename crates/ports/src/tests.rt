@@ -1,8 +1,8 @@
 ghost use Rattle.std.specs.Prelude.{◌≡◌, IfOk, Some, length};
 
 use crate::{
-    Desk, FileDesk, FileText, Gate, MemoryDesk, MemorySink, OpenGate, OutSink, PortFault, ReadFault,
-    Sink, SureDesk, SureSink, put_all, read_text, write_all,
+    Desk, FileDesk, FileText, Gate, MemoryDesk, MemorySink, OpenGate, OutSink, PortFault,
+    ReadFault, Sink, SureDesk, SureSink, put_all, read_text, write_all,
 };
 use std::alloc::{AllocError, Global};
 use std::test::Fail;
@@ -48,21 +48,25 @@ fn read_text_keeps_to_its_limit(rt: HostRuntime) -> Result<(), Fail> {
 #[test]
 fn memory_desk_fails_as_planned(rt: HostRuntime) -> Result<(), Fail> {
     let alloc = rt.alloc();
-    let mut desk = MemoryDesk::new(alloc, sevens(alloc, "a", 3)?, vec![in alloc; 2, 5]?);
+    let mut desk = MemoryDesk::new(alloc, sevens(alloc, "a", 3)?, vec![in alloc; 2]?);
     let mut buffer = [0; 4];
     assert_eq!(rt; desk.get("a", 1, &mut buffer), Ok(2));
     assert_eq!(rt; buffer, [7, 7, 0, 0]);
     assert_eq!(rt; desk.get("a", 0, &mut buffer), Err(PortFault::Failed));
     assert_eq!(rt; desk.get("b", 0, &mut buffer), Err(PortFault::Failed));
-    desk.begin("b")?;
-    assert_eq!(rt; desk.put("b", b"one"), Err(PortFault::Failed));
-    assert_eq!(rt; put_all(&mut desk, "b", b"two"), Ok(()));
-    assert_eq!(rt; desk.file("b"), Some(b"two".as_slice()));
-    assert_eq!(rt; desk.file("c"), None);
+    Ok(())
+}
+
+#[test]
+fn memory_desk_keeps_what_it_takes(rt: HostRuntime) -> Result<(), Fail> {
+    let alloc = rt.alloc();
+    let mut desk = MemoryDesk::new(alloc, Vec::new(alloc), vec![in alloc; 2]?);
     desk.begin("a")?;
-    desk.reserve(8)?;
-    assert_eq!(rt; desk.put("a", b"12345678"), Ok(8));
-    assert_eq!(rt; desk.file("a"), Some(b"12345678".as_slice()));
+    desk.reserve(3)?;
+    assert_eq!(rt; put_all(&mut desk, "a", b"one"), Err(PortFault::Failed));
+    assert_eq!(rt; put_all(&mut desk, "a", b"two"), Ok(()));
+    assert_eq!(rt; desk.file("a"), Some(b"two".as_slice()));
+    assert_eq!(rt; desk.file("b"), None);
     Ok(())
 }
 
@@ -78,7 +82,10 @@ fn sure_desk_keeps_what_it_is_given(rt: HostRuntime) -> Result<(), Fail> {
     desk.begin("b")?;
     desk.reserve(3)?;
     put_all(&mut desk, "b", b"abc")?;
-    assert_eq!(rt; read_text(alloc, &mut desk, "b", 3)?.as_slice(), b"abc".as_slice());
+    assert_eq!(rt;
+        read_text(alloc, &mut desk, "b", 3)?.as_slice(),
+        b"abc".as_slice()
+    );
     assert_eq!(rt; desk.file("b"), Some(b"abc".as_slice()));
     Ok(())
 }
@@ -129,8 +136,14 @@ fn the_system_keeps_files_and_prints(rt: HostRuntime) -> Result<(), Fail> {
     desk.begin("kept")?;
     put_all(&mut desk, "kept", b"abc")?;
     put_all(&mut desk, "kept", b"def")?;
-    assert_eq!(rt; read_text(alloc, &mut desk, "kept", 6)?.as_slice(), b"abcdef".as_slice());
+    assert_eq!(rt;
+        read_text(alloc, &mut desk, "kept", 6)?.as_slice(),
+        b"abcdef".as_slice()
+    );
     desk.begin("kept")?;
-    assert_eq!(rt; read_text(alloc, &mut desk, "kept", 6)?.as_slice(), b"".as_slice());
+    assert_eq!(rt;
+        read_text(alloc, &mut desk, "kept", 6)?.as_slice(),
+        b"".as_slice()
+    );
     Ok(())
 }

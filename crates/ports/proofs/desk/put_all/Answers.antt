@@ -9,7 +9,7 @@ loop-rest-init g c = record {
   stored = rw take_rest (Stored_first _ _ _ _ _ c.in_ok-first.ensures.bytes);
   later = c.in_ok-first.ensures.cause.later;
   other_writes = c.in_ok-first.ensures.other_writes;
-  reads = c.in_ok-first.ensures.reads
+  reads = c.in_ok-first.ensures.reads;
 }
 
 pub returns-in_err-count-clause-bytes : goal.returns-in_err-count-clause-bytes
@@ -22,5 +22,5 @@ loop-rest-preserved g c = record {
   stored = rw take_rest (Stored_more _ _ _ _ _ _ _ c.loop-rest.invariant.stored c.in_ok-count.ensures.bytes);
   later = omega (arith, c.in_ok-count.ensures.cause.later);
   other_writes = λ other differs. c.in_ok-count.ensures.other_writes other differs ∙ c.loop-rest.invariant.other_writes other differs;
-  reads = λ name. c.in_ok-count.ensures.reads name ∙ c.loop-rest.invariant.reads name
+  reads = λ name. c.in_ok-count.ensures.reads name ∙ c.loop-rest.invariant.reads name;
 }

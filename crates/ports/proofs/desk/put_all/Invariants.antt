@@ -8,7 +8,7 @@ invariant-loop-rest g l = record {
   stored : Stored (g.D.Desk.told l.fn.desk) (g.D.Desk.told l.desk) l.name l.bytes l.rest;
   later : g.D.Desk.write_faults l.fn.desk l.name ≤ g.D.Desk.write_faults l.desk l.name;
   other_writes : SameOtherCounts l.name (g.D.Desk.write_faults l.fn.desk) (g.D.Desk.write_faults l.desk);
-  reads : SameCounts (g.D.Desk.read_faults l.fn.desk) (g.D.Desk.read_faults l.desk)
+  reads : SameCounts (g.D.Desk.read_faults l.fn.desk) (g.D.Desk.read_faults l.desk);
 }
 
 abbrev pub decreases-loop-rest : goal.decreases-loop-rest

@@ -14,5 +14,5 @@ loop-chunk-preserved g c =
       short = counted;
       later = omega (arith, c.in_ok-count.ensures.cause.later);
       other_reads = λ other differs. c.in_ok-count.ensures.other_reads other differs ∙ c.loop-chunk.invariant.other_reads other differs;
-      writes = λ name. c.in_ok-count.ensures.writes name ∙ c.loop-chunk.invariant.writes name
+      writes = λ name. c.in_ok-count.ensures.writes name ∙ c.loop-chunk.invariant.writes name;
     }

@@ -9,7 +9,7 @@ invariant-loop-chunk g l = record {
   short : vec_len l.text ≤ l.limit + 1;
   later : g.D.Desk.read_faults l.fn.desk l.name ≤ g.D.Desk.read_faults l.desk l.name;
   other_reads : SameOtherCounts l.name (g.D.Desk.read_faults l.fn.desk) (g.D.Desk.read_faults l.desk);
-  writes : SameCounts (g.D.Desk.write_faults l.fn.desk) (g.D.Desk.write_faults l.desk)
+  writes : SameCounts (g.D.Desk.write_faults l.fn.desk) (g.D.Desk.write_faults l.desk);
 }
 
 abbrev pub decreases-loop-chunk : goal.decreases-loop-chunk

@@ -1,7 +1,7 @@
-use Rattle.std.proofs.Common.{rules, ◌≡◌, ◌≤◌, Ok, arith, refl}
+use Rattle.std.proofs.Common.{arith}
 use Rattle.std.proofs.lemmas.List.{take_rest}
 use Rattle.std.proofs.lemmas.Result.{err_from_is_err_and}
-use Rattle.ports.proofs.Sending.{Sent_none, Sent_more, Sent_fault}
+use Rattle.ports.proofs.Sending.{Sent_more, Sent_fault}
 use Rattle.ports.proofs.sink.write_all.Goals as goal
 
 pub returns-in_err-count-clause-bytes : goal.returns-in_err-count-clause-bytes
@@ -12,5 +12,5 @@ returns-in_err-count-clause-bytes g c =
 pub loop-rest-preserved : goal.loop-rest-preserved
 loop-rest-preserved g c = record {
   sent = rw take_rest (Sent_more _ _ _ _ _ _ c.loop-rest.invariant.sent c.in_ok-count.ensures.bytes);
-  later = omega (arith, c.in_ok-count.ensures.cause.later)
+  later = omega (arith, c.in_ok-count.ensures.cause.later);
 }

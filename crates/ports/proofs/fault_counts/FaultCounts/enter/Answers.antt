@@ -1,5 +1,4 @@
-use Rattle.std.proofs.Common.{◌≡◌, sym, ap, ◌∙◌, refl, Option, ℕ}
-use Rattle.ports.specs.Named.{IsPlaceOf}
+use Rattle.std.proofs.Common.{sym, ◌∙◌, refl}
 use Rattle.ports.specs.DeskState.{NamedCounts}
 use Rattle.ports.proofs.CountLemmas.{counted_from_place, new_from_place, Enters_there, Enters_new}
 use Rattle.ports.proofs.fault_counts.FaultCounts.enter.Goals as goal

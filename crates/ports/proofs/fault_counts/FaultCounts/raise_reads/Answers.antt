@@ -1,6 +1,4 @@
-use Rattle.std.proofs.Common.{◌≡◌, sym, ap, subst, ◌∙◌}
-use Rattle.ports.specs.DeskState.{Raises, read_count, write_count}
-use Rattle.ports.specs.Named.{IsFirst}
+use Rattle.std.proofs.Common.{ap}
 use Rattle.ports.proofs.CountLemmas.{Raises_reads}
 use Rattle.ports.proofs.fault_counts.FaultCounts.raise_reads.Goals as goal
 
