@@ -2,6 +2,8 @@
 use Rattle.std.specs.Prelude.{◌≡◌, ◌≢◌, ℕ, ◌+◌, ◌-◌, ◌^◌, ◌≤◌, min, List, Result, Err}
 use Rattle.ports.specs.declared.fault.PortFault.{PortFault}
 use Rattle.ports.specs.declared.fault.PortFault.TheVariants.{Failed}
+use Rattle.ports.specs.declared.fault.ReadFault.{ReadFault}
+use Rattle.ports.specs.declared.fault.ReadFault.TheVariants as reading
 
 -- a count of faults rose; at the last value of its type it stands still
 abbrev pub Rose : ℕ → ℕ → Type 0
@@ -11,6 +13,11 @@ Rose before now = min (before + 1) (2 ^ 64 - 1) ≤ now
 pub record HasCause {T : Type 0} (before now : ℕ) (result : Result T PortFault) : Type 0 where
   pub later : before ≤ now
   pub failed : result ≡ Err Failed → Rose before now
+
+-- reading a whole file leaves its count no lower, and fails only where the count rose meanwhile
+pub record HasReadCause {T : Type 0} (before now : ℕ) (result : Result T ReadFault) : Type 0 where
+  pub later : before ≤ now
+  pub failed : result ≡ Err reading.Failed → Rose before now
 
 -- a count for each name of a file
 abbrev pub Counts : Type 0

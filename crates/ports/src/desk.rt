@@ -1,5 +1,5 @@
-ghost use Rattle.std.specs.Prelude.{◌≡◌, ℕ, ◌^◌, ◌<◌, ◌≤◌, List, Option, length, IfOk, IfSome, Result, Err};
-ghost use Rattle.ports.specs.Causes.{Counts, HasCause, Rose, SameCounts, SameOtherCounts};
+ghost use Rattle.std.specs.Prelude.{ℕ, ◌^◌, ◌<◌, ◌≤◌, List, Option, length, IfOk};
+ghost use Rattle.ports.specs.Causes.{Counts, HasCause, HasReadCause, SameCounts, SameOtherCounts};
 ghost use Rattle.ports.specs.Contents.{Files, Tells, TakesSome, Reads, Puts, PutsAll, Begins, ReadsText, SameFiles, SameOtherFiles};
 
 use crate::fault::{PortFault, ReadFault};
@@ -42,4 +42,55 @@ pub trait Desk {
         ensures cause { HasCause (write_faults self.old name.now) (write_faults self.new name.now) result }
         ensures other_writes { SameOtherCounts name.now (write_faults self.old) (write_faults self.new) }
         ensures reads { SameCounts (read_faults self.old) (read_faults self.new) };
+}
+
+/// How many bytes `read_text` asks for at a time.
+const CHUNK: usize = 4096;
+
+/// Reads the whole file, of at most `limit` bytes. It asks for 4,096 bytes at a time, and stops at
+/// `limit + 1` bytes, or at the first `get` that gives nothing.
+pub fn read_text<D: Desk>(
+    alloc: Global,
+    desk: &mut D,
+    name: &str,
+    limit: u64,
+) -> Result<Vec<u8>, ReadFault>
+    requires { limit < 2 ^ 63 }
+    ensures within { IfOk result (λ text. length text.items ≤ limit) }
+    ensures bytes { Tells (D.told desk.old) (D.told desk.new) (λ before now.
+        SameFiles before now × ReadsText (before name.now) limit result) }
+    ensures cause { HasReadCause (D.read_faults desk.old name.now) (D.read_faults desk.new name.now) result }
+    ensures other_reads { SameOtherCounts name.now (D.read_faults desk.old) (D.read_faults desk.new) }
+    ensures writes { SameCounts (D.write_faults desk.old) (D.write_faults desk.new) }
+{
+    let mut text = Vec::new(alloc);
+    let mut chunk = [0; CHUNK];
+    while text.len() as u64 <= limit {
+        let at = text.len() as u64;
+        let room = (limit + 1 - at).min(CHUNK as u64);
+        let buffer = &mut chunk[..room as usize];
+        let count = desk.get(name, at, buffer)?;
+        if count == 0 {
+            return Ok(text);
+        }
+        text.extend_from_slice(&buffer[..count])?;
+    }
+    Err(ReadFault::Long)
+}
+
+/// Appends all the bytes to a file, by one `put` at least, so that the file is there afterwards.
+pub fn put_all<D: Desk>(desk: &mut D, name: &str, bytes: &[u8]) -> Result<(), PortFault>
+    ensures bytes { Tells (D.told desk.old) (D.told desk.new) (λ before now.
+        SameOtherFiles name.now before now × PutsAll bytes.now result (before name.now) (now name.now)) }
+    ensures cause { HasCause (D.write_faults desk.old name.now) (D.write_faults desk.new name.now) result }
+    ensures other_writes { SameOtherCounts name.now (D.write_faults desk.old) (D.write_faults desk.new) }
+    ensures reads { SameCounts (D.read_faults desk.old) (D.read_faults desk.new) }
+{
+    let first = desk.put(name, bytes)?;
+    let mut rest = &bytes[first..];
+    while !rest.is_empty() {
+        let count = desk.put(name, rest)?;
+        rest = &rest[count..];
+    }
+    Ok(())
 }

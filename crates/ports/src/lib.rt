@@ -4,12 +4,33 @@
 //! may tell what it holds, and then contracts say what each call reads and writes.
 #![tactic(auto)]
 
+mod copying;
 mod desk;
 mod fault;
+mod fault_counts;
+mod file_desk;
+mod file_list;
+mod file_text;
 mod gate;
+mod memory_desk;
+mod memory_sink;
+mod named;
+mod out_sink;
 mod sink;
+mod sure_desk;
+mod sure_sink;
 
-pub use desk::Desk;
+pub use desk::{Desk, put_all, read_text};
 pub use fault::{PortFault, ReadFault};
+pub use file_desk::FileDesk;
+pub use file_text::FileText;
 pub use gate::{Gate, OpenGate};
+pub use memory_desk::MemoryDesk;
+pub use memory_sink::MemorySink;
+pub use out_sink::OutSink;
 pub use sink::{Sink, write_all};
+pub use sure_desk::SureDesk;
+pub use sure_sink::SureSink;
+
+#[cfg(test)]
+mod tests;

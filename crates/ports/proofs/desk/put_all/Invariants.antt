@@ -1,0 +1,15 @@
+use Rattle.std.proofs.Common.{◌≤◌, length}
+use Rattle.ports.specs.Causes.{SameCounts, SameOtherCounts}
+use Rattle.ports.proofs.Putting.{Stored}
+use Rattle.ports.proofs.desk.put_all.Given as goal
+
+abbrev pub invariant-loop-rest : goal.invariant-loop-rest
+invariant-loop-rest g l = record {
+  stored : Stored (g.D.Desk.told l.fn.desk) (g.D.Desk.told l.desk) l.name l.bytes l.rest;
+  later : g.D.Desk.write_faults l.fn.desk l.name ≤ g.D.Desk.write_faults l.desk l.name;
+  other_writes : SameOtherCounts l.name (g.D.Desk.write_faults l.fn.desk) (g.D.Desk.write_faults l.desk);
+  reads : SameCounts (g.D.Desk.read_faults l.fn.desk) (g.D.Desk.read_faults l.desk);
+}
+
+abbrev pub decreases-loop-rest : goal.decreases-loop-rest
+decreases-loop-rest g l = length l.rest
