@@ -1,0 +1,7 @@
+pub mod Columns
+pub mod Decides
+pub mod Decisions
+pub mod Distinct
+pub mod Printed
+pub mod Rows
+pub mod Words

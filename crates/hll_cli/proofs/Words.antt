@@ -1,0 +1,10 @@
+-- Words of a command line.
+use Rattle.std.proofs.Common.{◌≡◌, ℕ, ◌<◌, ◌≤◌, List, [], ◌∷◌, length, get_or, map, refl, arith, ap, sym, ◌∙◌}
+
+-- what two words are made of
+pub two_words : {X : Type 0} (f : X → List ℕ) (xs : List X) (a b : X) (p : List ℕ) → 2 ≤ length xs → length xs < 3 → a ≡ get_or xs 0 a → b ≡ get_or xs 1 b → f a ≡ p → map f xs ≡ p ∷ f b ∷ []
+two_words f [] a b p some few first second is = absurd (omega arith)
+two_words f (x ∷ []) a b p some few first second is = absurd (omega arith)
+two_words f (x ∷ y ∷ []) a b p some few first second is =
+    ap (λ z. f z ∷ f y ∷ []) (sym first) ∙ ap (λ z. f a ∷ f z ∷ []) (sym second) ∙ ap (λ q. q ∷ f b ∷ []) is
+two_words f (x ∷ y ∷ z ∷ zs) a b p some few first second is = absurd (omega arith)

@@ -1,0 +1,96 @@
+-- The report: what is printed of each obligation, and what that means.
+use Rattle.std.specs.Prelude.{◌≡◌, ℕ, suc, ◌-◌, Bool, true, false, List, [], ◌∷◌, ◌++◌, length, count_by, codes}
+use Rattle.std.specs.Fmt.{decimal}
+use Rattle.std.specs.List.{list_any}
+use Rattle.hll_lexer.specs.declared.places.LineColumn.{LineColumn}
+use Rattle.hll_lexer.specs.Place.{place_of}
+use Rattle.hll_tree.specs.declared.tree.Expr.{Expr}
+use Rattle.hll_tree.specs.declared.tree.HllModel.{HllModel}
+use Rattle.hll_tree.specs.Meaning.{Instant, History, variables, obligations, Holds, IsShortest}
+use Rattle.hll_cli.specs.declared.verdict.Verdict.{Verdict}
+use Rattle.hll_cli.specs.declared.verdict.Verdict.TheVariants.{Proved, Falsified}
+use Rattle.hll_cli.specs.Thin.{IsThin}
+
+-- ---- what a verdict means
+
+-- proved: it is true at the last instant of every run that meets the constraints; falsified: the trace's run is a shortest one that breaks it
+abbrev pub IsRight : HllModel → Expr → Verdict → Type 0
+IsRight m e (Proved k) = (k ≡ 1) × Holds m e
+IsRight m e (Falsified trace) = IsShortest m e trace
+
+-- a right verdict for each obligation, in order
+abbrev pub AreRight : HllModel → List Expr → List Verdict → Type 0
+AreRight m [] [] = Unit {0}
+AreRight m (e ∷ es) (v ∷ vs) = IsRight m e v × AreRight m es vs
+AreRight m [] (v ∷ vs) = ⊥
+AreRight m (e ∷ es) [] = ⊥
+
+abbrev pub is_falsified : Verdict → Bool
+is_falsified (Proved k) = false
+is_falsified (Falsified trace) = true
+
+-- ---- how it is printed
+
+abbrev pub line_feed : List ℕ
+line_feed = 10 ∷ []
+
+abbrev pub truth_text : Bool → List ℕ
+truth_text true = codes "true"
+truth_text false = codes "false"
+
+-- an input with its value, after a space
+unfoldable pub value_text : List ℕ → Bool → List ℕ
+value_text name x = codes " " ++ name ++ codes "=" ++ truth_text x
+
+-- each input with its value
+abbrev pub values_text : List (List ℕ) → Instant → List ℕ
+values_text [] values = []
+values_text (name ∷ names) [] = []
+values_text (name ∷ names) (x ∷ xs) = value_text name x ++ values_text names xs
+
+-- the line of an instant: its time and its values
+unfoldable pub instant_text : List (List ℕ) → ℕ → Instant → List ℕ
+instant_text names t values = decimal t ++ codes ":" ++ values_text names values ++ line_feed
+
+-- a line for each instant, from a time on
+abbrev pub trace_text : List (List ℕ) → ℕ → History → List ℕ
+trace_text names t [] = []
+trace_text names t (values ∷ more) = instant_text names t values ++ trace_text names (suc t) more
+
+-- a verdict, and after a falsified one its trace
+unfoldable pub verdict_text : List (List ℕ) → Verdict → List ℕ
+verdict_text names (Proved k) = codes "proved " ++ decimal k ++ line_feed
+verdict_text names (Falsified trace) = codes "falsified " ++ decimal (length trace) ++ line_feed ++ trace_text names 0 trace
+
+-- a line and a column
+unfoldable pub place_text : LineColumn → List ℕ
+place_text place = decimal place.line ++ codes ":" ++ decimal place.column
+
+-- what stands before the verdict on an obligation: its number and its place
+unfoldable pub heading_text : ℕ → LineColumn → List ℕ
+heading_text number place = codes "obligation " ++ decimal number ++ codes " at " ++ place_text place ++ codes ": "
+
+-- the obligations from a number on, each with its place and its verdict
+abbrev pub obligations_text : List ℕ → List (List ℕ) → ℕ → List Expr → List Verdict → List ℕ
+obligations_text text names number [] verdicts = []
+obligations_text text names number (e ∷ es) [] = []
+obligations_text text names number (e ∷ es) (v ∷ vs) =
+    heading_text number (place_of text e.at) ++ verdict_text names v ++ obligations_text text names (suc number) es vs
+
+-- how many are proved and how many falsified; none is undecided
+abbrev pub counts_text : List Verdict → List ℕ
+counts_text verdicts =
+    let falsified = count_by is_falsified verdicts in
+    codes "proved " ++ decimal (length verdicts - falsified) ++ codes " falsified " ++ decimal falsified ++ codes " undecided 0" ++ line_feed
+
+abbrev pub report_text : List ℕ → HllModel → List Verdict → List ℕ
+report_text text m verdicts = obligations_text text (variables m) 1 (obligations m) verdicts ++ counts_text verdicts
+
+-- the report on a text: a right verdict for each obligation, and what is printed of them
+pub record IsReport (text : List ℕ) (output : List ℕ) (falsified : Bool) : Type 0 where
+  pub model : HllModel
+  pub thin : IsThin text model
+  pub verdicts : List Verdict
+  pub right : AreRight model (obligations model) verdicts
+  pub printed : output ≡ report_text text model verdicts
+  pub any_falsified : falsified ≡ list_any is_falsified verdicts

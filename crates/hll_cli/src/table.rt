@@ -1,0 +1,152 @@
+//! Truth tables: the column of an expression has its value at each row of the inputs.
+
+ghost use Rattle.std.specs.Prelude.{◌≡◌, ℕ, ◌≤◌, ◌<◌, ◌^◌, List, ◌∷◌, length, map, Contains, IfSome, IfNone, OnSome, IfOk, Bool, false, not, ◌||◌};
+ghost use Rattle.std.specs.List.{slice_index_or};
+ghost use Rattle.hll_tree.specs.declared.tree.Op.{Op};
+ghost use Rattle.hll_tree.specs.Meaning.{UsesOnly, value_at, chain_value};
+ghost use Rattle.hll_cli.specs.Table.{row, IsColumn};
+
+use hll_tree::{Expr, Form, Op};
+use std::alloc::{AllocError, Global};
+
+/// The greatest number of inputs that a table has rows for.
+pub const MAX_INPUTS: usize = 12;
+
+/// How many rows a table over so many inputs has.
+fn rows(inputs: usize) -> usize
+    requires { inputs ≤ 12 }
+    ensures { result ≡ 2 ^ inputs }
+{
+    1 << inputs
+}
+
+/// A column with one value at every row.
+fn constant(alloc: Global, rows: usize, value: bool) -> Result<Vec<bool>, AllocError>
+    ensures length { IfOk result (λ c. length c.items ≡ rows) }
+    ensures each { IfOk result (λ c. (k : ℕ) → k < rows → slice_index_or c.items k false ≡ value) }
+{
+    vec![in alloc; value; rows]
+}
+
+/// The column of an input, by its position among the inputs.
+fn input(alloc: Global, inputs: usize, position: usize) -> Result<Vec<bool>, AllocError>
+    requires few { inputs ≤ 12 }
+    requires there { position < inputs }
+    ensures length { IfOk result (λ c. length c.items ≡ 2 ^ inputs) }
+    ensures each { IfOk result (λ c. (k : ℕ) → k < 2 ^ inputs →
+        slice_index_or c.items k false ≡ slice_index_or (row inputs k) position false) }
+{
+    let rows = rows(inputs);
+    let mut column = Vec::with_capacity(alloc, rows)?;
+    for number in 0..rows {
+        column.push((number >> position) % 2 == 1)?;
+    }
+    Ok(column)
+}
+
+/// The position of a name among the inputs.
+pub fn position(names: &[&[u8]], name: &[u8]) -> Option<usize>
+    ensures there { IfSome result (λ i. i < length names.now) }
+    ensures found { IfSome result (λ i. Contains (map (λ n. n.now) names.now) name.now) }
+    ensures value { IfSome result (λ i. (values : List Bool) → length values ≡ length names.now →
+        value_at (map (λ n. n.now) names.now) values name.now ≡ slice_index_or values i false) }
+    ensures none { IfNone result (Contains (map (λ n. n.now) names.now) name.now → ⊥) }
+{
+    for (i, n) in names.iter().enumerate() {
+        if *n == name {
+            return Some(i);
+        }
+    }
+    None
+}
+
+/// The opposite at each row.
+fn negate(column: &mut [bool])
+    ensures length { length column.new ≡ length column.old }
+    ensures each { (k : ℕ) → k < length column.old → slice_index_or column.new k false ≡ not (slice_index_or column.old k false) }
+{
+    for value in column.iter_mut() {
+        *value = !*value;
+    }
+}
+
+/// A chain at one row, as far as it was read: whether an earlier premise is false, which makes it true
+/// whatever follows, and the value of what was read after that premise.
+fn take_link(op: Op, settled: bool, value: bool, next: bool) -> (bool, bool)
+    ensures { (links : List (Op × Bool)) →
+        (result.0 || chain_value result.1 links) ≡ (settled || chain_value value ((op, next) ∷ links)) }
+{
+    match op {
+        Op::Implies => (settled || !value, next),
+        Op::Or => (settled, value || next),
+        Op::And => (settled, value && next),
+    }
+}
+
+/// The same at each row.
+fn take_links(op: Op, settled: &mut [bool], value: &mut [bool], next: &[bool])
+    requires opens { length value.old ≡ length settled.old }
+    requires nexts { length next.now ≡ length settled.old }
+    ensures settled_length { length settled.new ≡ length settled.old }
+    ensures value_length { length value.new ≡ length settled.old }
+    ensures each { (k : ℕ) (links : List (Op × Bool)) → k < length settled.old →
+        (slice_index_or settled.new k false || chain_value (slice_index_or value.new k false) links)
+        ≡ (slice_index_or settled.old k false
+        || chain_value (slice_index_or value.old k false) ((op, slice_index_or next.now k false) ∷ links)) }
+{
+    for row in 0..settled.len() {
+        let (now_settled, now_value) = take_link(op, settled[row], value[row], next[row]);
+        settled[row] = now_settled;
+        value[row] = now_value;
+    }
+}
+
+/// True at each row at which either is.
+fn or(column: &mut [bool], other: &[bool])
+    requires { length other.now ≡ length column.old }
+    ensures length { length column.new ≡ length column.old }
+    ensures each { (k : ℕ) → k < length column.old →
+        slice_index_or column.new k false ≡ (slice_index_or other.now k false || slice_index_or column.old k false) }
+{
+    for row in 0..column.len() {
+        column[row] = other[row] || column[row];
+    }
+}
+
+/// The column of an expression over these inputs, if it uses no other names.
+pub fn column(alloc: Global, names: &[&[u8]], expr: &Expr) -> Result<Option<Vec<bool>>, AllocError>
+    requires { length names.now ≤ 12 }
+    ensures column { IfOk result (λ found. IfSome found (λ c. IsColumn (map (λ n. n.now) names.now) expr.now c.items)) }
+    ensures declared { IfOk result (λ found. OnSome found (UsesOnly (map (λ n. n.now) names.now) expr.now)) }
+    ensures unknown { IfOk result (λ found. IfNone found (UsesOnly (map (λ n. n.now) names.now) expr.now → ⊥)) }
+{
+    let rows = rows(names.len());
+    match &expr.form {
+        Form::Truth(value) => Ok(Some(constant(alloc, rows, *value)?)),
+        Form::Path(name, _) => match position(names, name.text.bytes()) {
+            None => Ok(None),
+            Some(position) => Ok(Some(input(alloc, names.len(), position)?)),
+        },
+        Form::Not(inner) => {
+            let Some(mut column) = column(alloc, names, inner.get())? else {
+                return Ok(None);
+            };
+            negate(&mut column);
+            Ok(Some(column))
+        }
+        Form::Chain(first, links) => {
+            let Some(mut value) = column(alloc, names, first.get())? else {
+                return Ok(None);
+            };
+            let mut settled = constant(alloc, rows, false)?;
+            for link in links.as_slice() {
+                let Some(next) = column(alloc, names, &link.with)? else {
+                    return Ok(None);
+                };
+                take_links(link.op, &mut settled, &mut value, &next);
+            }
+            or(&mut value, &settled);
+            Ok(Some(value))
+        }
+    }
+}

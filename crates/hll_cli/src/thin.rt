@@ -1,0 +1,82 @@
+//! The texts that are built: what they declare, and what is asked of them.
+
+ghost use Rattle.std.specs.Prelude.{◌≡◌, ℕ, ◌≤◌, ◌<◌, ◌++◌, List, length, map, IsTrue, ◌↔◌, IfOk, OnOk};
+ghost use Rattle.std.specs.List.{flat_map, IsDistinct};
+ghost use Rattle.std.specs.Str.{bytes_eq};
+ghost use Rattle.hll_tree.specs.Meaning.{declared_names, variables_in, variables, obligations_in, obligations};
+
+use crate::table::position;
+use hll_tree::{Decl, Expr, HllModel, Section};
+use std::alloc::{AllocError, Global};
+
+/// Appends the names of a declaration.
+fn push_names<'a>(names: &mut Vec<&'a [u8]>, decl: &'a Decl) -> Result<(), AllocError>
+    ensures { OnOk result (map (λ n. n.now) names.new.items ≡ map (λ n. n.now) names.old.items ++ declared_names decl.now) }
+{
+    for declarator in decl.names.as_slice() {
+        names.push(declarator.name.text.bytes())?;
+    }
+    Ok(())
+}
+
+/// Appends the names of the inputs that a section declares.
+fn push_inputs<'a>(names: &mut Vec<&'a [u8]>, section: &'a Section) -> Result<(), AllocError>
+    ensures { OnOk result (map (λ n. n.now) names.new.items ≡ map (λ n. n.now) names.old.items ++ variables_in section.now) }
+{
+    if let Section::Inputs(decls) = section {
+        for decl in decls.as_slice() {
+            push_names(names, decl)?;
+        }
+    }
+    Ok(())
+}
+
+/// The names of the inputs, in text order.
+pub fn inputs(alloc: Global, model: &HllModel) -> Result<Vec<&[u8]>, AllocError>
+    ensures { IfOk result (λ names. map (λ n. n.now) names.items ≡ variables model.now) }
+{
+    let mut names = Vec::new(alloc);
+    for section in model.sections.as_slice() {
+        push_inputs(&mut names, section)?;
+    }
+    Ok(names)
+}
+
+/// Appends the obligations of a section.
+fn push_obligations<'a>(
+    obligations: &mut Vec<&'a Expr>,
+    section: &'a Section,
+) -> Result<(), AllocError>
+    ensures { OnOk result (map (λ e. e.now) obligations.new.items ≡ map (λ e. e.now) obligations.old.items ++ obligations_in section.now) }
+{
+    if let Section::Obligations(expressions) = section {
+        for expression in expressions.as_slice() {
+            obligations.push(expression)?;
+        }
+    }
+    Ok(())
+}
+
+/// The obligations, in text order.
+pub fn asked(alloc: Global, model: &HllModel) -> Result<Vec<&Expr>, AllocError>
+    ensures { IfOk result (λ es. map (λ e. e.now) es.items ≡ obligations model.now) }
+{
+    let mut obligations = Vec::new(alloc);
+    for section in model.sections.as_slice() {
+        push_obligations(&mut obligations, section)?;
+    }
+    Ok(obligations)
+}
+
+/// Whether no two of these names are equal. They are few.
+pub fn are_distinct(names: &[&[u8]]) -> bool
+    ensures { IsTrue result ↔ IsDistinct bytes_eq (map (λ n. n.now) names.now) }
+{
+    for (i, name) in names.iter().enumerate() {
+        match position(&names[i + 1..], name) {
+            Some(_) => return false,
+            None => {}
+        }
+    }
+    true
+}

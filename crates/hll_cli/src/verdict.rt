@@ -1,0 +1,100 @@
+//! Verdicts on obligations, by a truth table for each.
+
+ghost use Rattle.std.specs.Prelude.{◌≡◌, ℕ, ◌≤◌, ◌<◌, List, [], ◌∷◌, length, map, IfSome, IfNone, OnSome, IfOk, false, true};
+ghost use Rattle.std.specs.List.{slice_index_or, AllByRecursion};
+ghost use Rattle.hll_tree.specs.declared.tree.HllModel.{HllModel};
+ghost use Rattle.hll_tree.specs.Meaning.{variables, UsesOnly};
+ghost use Rattle.hll_cli.specs.Report.{IsRight, AreRight};
+ghost use Rattle.hll_cli.specs.Table.{row};
+
+use crate::table::column;
+use hll_tree::Expr;
+use sqlite_items::Items;
+use std::alloc::{AllocError, Global};
+
+/// What was found of an obligation.
+#[derive(Debug, Drop)]
+pub enum Verdict {
+    /// It holds at the last instant of every run, found in this round.
+    Proved(u32),
+    /// A trace whose run breaks it: for each instant a value for each input.
+    Falsified(Items<Items<bool>>),
+}
+
+/// The first row of a column that is false.
+fn first_false(column: &[bool]) -> Option<usize>
+    ensures there { IfSome result (λ k. k < length column.now) }
+    ensures at { IfSome result (λ k. slice_index_or column.now k false ≡ false) }
+    ensures none { IfNone result ((k : ℕ) → k < length column.now → slice_index_or column.now k false ≡ true) }
+{
+    column.iter().position(|value| !*value)
+}
+
+/// The values of the inputs at a row.
+fn instant(alloc: Global, inputs: usize, number: usize) -> Result<Items<bool>, AllocError>
+    requires { inputs ≤ 12 }
+    ensures { IfOk result (λ values. values ≡ row inputs number) }
+{
+    let mut values = Items::new(alloc);
+    for position in 0..inputs {
+        values.push((number >> position) % 2 == 1)?;
+    }
+    Ok(values)
+}
+
+/// A trace of one instant.
+fn trace(alloc: Global, values: Items<bool>) -> Result<Items<Items<bool>>, AllocError>
+    ensures { IfOk result (λ rows. rows ≡ values ∷ []) }
+{
+    let mut rows = Items::new(alloc);
+    rows.push(values)?;
+    Ok(rows)
+}
+
+/// The verdict on an obligation over these inputs, if it uses no other names.
+fn verdict_on(
+    alloc: Global,
+    names: &[&[u8]],
+    obligation: &Expr,
+) -> Result<Option<Verdict>, AllocError>
+    requires { length names.now ≤ 12 }
+    ensures right { IfOk result (λ found. IfSome found (λ v. (m : HllModel) →
+        variables m ≡ map (λ n. n.now) names.now → IsRight m obligation.now v)) }
+    ensures declared { IfOk result (λ found. OnSome found (UsesOnly (map (λ n. n.now) names.now) obligation.now)) }
+    ensures unknown { IfOk result (λ found. IfNone found (UsesOnly (map (λ n. n.now) names.now) obligation.now → ⊥)) }
+{
+    let Some(column) = column(alloc, names, obligation)? else {
+        return Ok(None);
+    };
+    match first_false(&column) {
+        None => Ok(Some(Verdict::Proved(1))),
+        Some(number) => {
+            let values = instant(alloc, names.len(), number)?;
+            Ok(Some(Verdict::Falsified(trace(alloc, values)?)))
+        }
+    }
+}
+
+/// The verdicts on obligations over these inputs, in order, if they use no other names.
+pub fn verdicts(
+    alloc: Global,
+    names: &[&[u8]],
+    obligations: &[&Expr],
+) -> Result<Option<Items<Verdict>>, AllocError>
+    requires { length names.now ≤ 12 }
+    ensures right { IfOk result (λ found. IfSome found (λ vs. (m : HllModel) →
+        variables m ≡ map (λ n. n.now) names.now → AreRight m (map (λ e. e.now) obligations.now) vs)) }
+    ensures declared { IfOk result (λ found. OnSome found
+        (AllByRecursion (UsesOnly (map (λ n. n.now) names.now)) (map (λ e. e.now) obligations.now))) }
+    ensures unknown { IfOk result (λ found. IfNone found
+        (AllByRecursion (UsesOnly (map (λ n. n.now) names.now)) (map (λ e. e.now) obligations.now) → ⊥)) }
+{
+    let mut verdicts = Items::new(alloc);
+    for obligation in obligations {
+        match verdict_on(alloc, names, obligation)? {
+            None => return Ok(None),
+            Some(verdict) => verdicts.push(verdict)?,
+        }
+    }
+    Ok(Some(verdicts))
+}

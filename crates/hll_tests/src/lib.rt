@@ -1,0 +1,9 @@
+//! Tests of the whole command, over files and a sink in memory.
+#![tactic(auto)]
+
+#[cfg(test)]
+mod answers;
+#[cfg(test)]
+mod limits;
+#[cfg(test)]
+mod memory;

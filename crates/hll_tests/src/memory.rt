@@ -1,0 +1,46 @@
+//! The command on a text in memory.
+
+ghost use Rattle.std.specs.Prelude.{◌≡◌, IfOk, length};
+
+use hll_cli::run;
+use ports::{Desk, FileText, OpenGate, Sink, SureDesk, SureSink};
+use std::alloc::{AllocError, Global};
+use std::thread::Threads;
+
+/// One file of this name.
+pub fn file(alloc: Global, name: &str, bytes: &[u8]) -> Result<Vec<FileText>, AllocError>
+    ensures { IfOk result (λ files. length files.items ≡ 1) }
+{
+    let file = FileText {
+        name: String::from_str(alloc, name)?,
+        bytes: Vec::from_slice(alloc, bytes)?,
+    };
+    Ok(vec![in alloc; file]?)
+}
+
+/// Runs the command over any ports.
+pub fn run_over<R: Threads + Sync, D: Desk, O: Sink>(
+    rt: &R,
+    alloc: Global,
+    words: &[&str],
+    desk: &mut D,
+    out: &mut O,
+) -> Result<u8, AllocError> {
+    let mut owned = Vec::new(alloc);
+    for word in words {
+        owned.push(String::from_str(alloc, word)?)?;
+    }
+    Ok(run(rt, alloc, &owned, desk, out, &OpenGate))
+}
+
+/// The status of `prove m` on a text, and what it writes.
+pub fn prove<R: Threads + Sync>(
+    rt: &R,
+    alloc: Global,
+    text: &[u8],
+) -> Result<(u8, SureSink), AllocError> {
+    let mut desk = SureDesk::new(alloc, file(alloc, "m", text)?);
+    let mut out = SureSink::new(alloc);
+    let status = run_over(rt, alloc, &["prove", "m"], &mut desk, &mut out)?;
+    Ok((status, out))
+}
