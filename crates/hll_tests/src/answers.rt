@@ -20,7 +20,7 @@ fn texts_have_these_answers(rt: HostRuntime) -> Result<(), Fail> {
         (
             b"Inputs: bool a, b, c;\nProof Obligations:\n  a & b -> b & a;\n  (a -> b -> c) -> (a & b -> c);\n  ~(a # b) -> ~a & ~b;\n  true & TRUE & ~false & ~FALSE;\n  (a -> b) -> c;\n",
             1,
-            b"obligation 1 at 3:9: proved 1\nobligation 2 at 4:18: proved 1\nobligation 3 at 5:12: proved 1\nobligation 4 at 6:8: proved 1\nobligation 5 at 7:12: falsified 1\n0: a=false b=false c=false\nproved 4 falsified 1 undecided 0\n",
+            b"obligation 1 at 3:9: proved 1\nobligation 2 at 4:17: proved 1\nobligation 3 at 5:12: proved 1\nobligation 4 at 6:8: proved 1\nobligation 5 at 7:12: falsified 1\n0: a=false b=false c=false\nproved 4 falsified 1 undecided 0\n",
         ),
         // `&` binds more tightly than `#`, and this more tightly than `->`, which groups to the right.
         (
@@ -38,12 +38,16 @@ fn texts_have_these_answers(rt: HostRuntime) -> Result<(), Fail> {
         (
             b"Inputs: bool I1, Input, trueX, _, x, ALLx;\nProof Obligations: I1 & Input & trueX & _ & x & ALLx -> x;",
             0,
-            b"obligation 1 at 2:52: proved 1\nproved 1 falsified 0 undecided 0\n",
+            b"obligation 1 at 2:54: proved 1\nproved 1 falsified 0 undecided 0\n",
         ),
         (b"// a comment\n", 3, b"refused Unbuilt\n"),
         (b"Inputs: bool a; /* a comment */", 3, b"refused Unbuilt\n"),
         (b"Inputs: int [0, 3] d;", 3, b"refused Unbuilt\n"),
-        (b"Inputs: bool a;\nProof Obligations: a", 3, b"refused Unbuilt\n"),
+        (
+            b"Inputs: bool a;\nProof Obligations: a",
+            3,
+            b"refused Unbuilt\n",
+        ),
         (b"Inputs: bool a\xE9;", 3, b"refused Unbuilt\n"),
     ];
     for (text, status, output) in table {
@@ -60,7 +64,13 @@ fn words_and_ports_are_refused_by_their_statuses(rt: HostRuntime) -> Result<(), 
     let text = b"Inputs: bool a;\nProof Obligations: a # ~a;\n";
     let usage = b"usage: hll prove MODEL\n";
     let table: [(&[&str], u64, u64, u8, &[u8]); 9] = [
-        (&["prove", "m"], 0, 0, 0, b"obligation 1 at 2:22: proved 1\nproved 1 falsified 0 undecided 0\n"),
+        (
+            &["prove", "m"],
+            0,
+            0,
+            0,
+            b"obligation 1 at 2:22: proved 1\nproved 1 falsified 0 undecided 0\n",
+        ),
         // The first and the second read of the model fail.
         (&["prove", "m"], 1, 0, 5, b"refused read m\n"),
         (&["prove", "m"], 2, 0, 5, b"refused read m\n"),
