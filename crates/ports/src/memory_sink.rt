@@ -40,6 +40,7 @@ impl MemorySink {
         ensures calls { result.calls ≡ 0 }
         ensures plan { result.fails ≡ fails.items }
         ensures faults { result.faults ≡ 0 }
+        ensures spare { result.spare ≡ 0 }
     {
         MemorySink {
             bytes: Vec::new(alloc),

@@ -26,7 +26,8 @@ impl Model for SureSink {
 
 impl SureSink {
     pub fn new(alloc: Global) -> SureSink
-        ensures { result.bytes ≡ [] }
+        ensures bytes { result.bytes ≡ [] }
+        ensures spare { result.spare ≡ 0 }
     {
         SureSink {
             bytes: Vec::new(alloc),
@@ -42,9 +43,9 @@ impl SureSink {
 
     /// Makes room for `more` bytes, which writes then take without memory.
     pub fn reserve(&mut self, more: usize) -> Result<(), AllocError>
-        ensures bytes { self.new.bytes ≡ self.old.bytes }
         ensures room { OnOk result (more ≤ self.new.spare) }
         ensures kept { self.old.spare ≤ self.new.spare }
+        ensures same { self.new ≡ record self.old { spare = self.new.spare } }
     {
         self.bytes.reserve(more)
     }
