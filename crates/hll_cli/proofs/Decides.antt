@@ -1,12 +1,12 @@
 -- What a truth table decides.
-use Rattle.std.proofs.Common.{◌≡◌, ℕ, zero, suc, ◌<◌, ◌≤◌, ◌+◌, ◌-◌, ◌*◌, ◌^◌, ◌%◌, ◌/◌, eqb, List, [], ◌∷◌, ◌++◌, length, get_or, take, map, Bool, true, false, refl, rules, arith, ap, sym, ◌∙◌, subst}
+use Rattle.std.proofs.Common.{◌≡◌, ℕ, zero, suc, ◌<◌, ◌+◌, ◌*◌, ◌^◌, ◌%◌, ◌/◌, List, [], ◌∷◌, ◌++◌, length, get_or, take, map, Bool, true, false, refl, arith, ap, sym, ◌∙◌, subst}
 use Rattle.std.specs.List.{AllByRecursion}
 use Rattle.std.proofs.Math.Nat.{pow-succ'}
 use Rattle.std.proofs.lemmas.List.{length-map, take_more}
 use Rattle.std.proofs.Math.ListN.{get_or-map}
 use Rattle.hll_tree.specs.declared.tree.Expr.{Expr}
 use Rattle.hll_tree.specs.declared.tree.HllModel.{HllModel}
-use Rattle.hll_tree.specs.Meaning.{History, variables, value, value_in, value_at, instant_at, last_time, IsRun, Meets, Holds, Breaks, IsShortest}
+use Rattle.hll_tree.specs.Meaning.{variables, value_in, value_at, instant_at, last_time, Holds, IsShortest}
 use Rattle.hll_cli.specs.declared.verdict.Verdict.{Verdict}
 use Rattle.hll_cli.specs.Report.{IsRight, AreRight}
 use Rattle.hll_cli.specs.Table.{row, IsColumn}

@@ -1,5 +1,5 @@
 -- When a text isn't of the forms that are built, and what a report on one that is needs.
-use Rattle.std.proofs.Common.{◌≡◌, ℕ, suc, ◌<◌, ◌≤◌, ◌++◌, List, [], ◌∷◌, length, map, Bool, refl, arith, ap, sym, ◌∙◌, subst, Result, Err}
+use Rattle.std.proofs.Common.{◌≡◌, ℕ, suc, ◌<◌, ◌≤◌, ◌++◌, List, [], ◌∷◌, length, Bool, refl, arith, ap, sym, ◌∙◌, subst, Result, Err}
 use Rattle.std.specs.Result.{IsErrAnd}
 use Rattle.std.proofs.lemmas.Result.{err_from_is_err_and}
 use Rattle.std.specs.List.{AllByRecursion, IsDistinct, list_any}

@@ -1,5 +1,5 @@
 -- Names of which no two are equal.
-use Rattle.std.proofs.Common.{◌≡◌, ℕ, zero, suc, ◌<◌, ◌+◌, ◌-◌, List, [], ◌∷◌, length, get_or, take, drop, map, add-one, Bool, true, false, Contains, ◌↔◌, ◌≤◌, IsTrue, refl, rules, arith, ap, sym, ◌∙◌}
+use Rattle.std.proofs.Common.{◌≡◌, ℕ, zero, suc, ◌<◌, ◌+◌, ◌-◌, List, [], ◌∷◌, length, get_or, take, drop, map, add-one, Bool, true, false, Contains, ◌↔◌, ◌≤◌, IsTrue, refl, arith, ap, sym, ◌∙◌}
 use Rattle.std.specs.List.{AllByRecursion, IsDistinct}
 use Rattle.std.specs.Str.{bytes_eq}
 use Rattle.std.proofs.lemmas.Slice.Eq.{bytes_eq-Decides}

@@ -1,5 +1,5 @@
 -- Values of variables by their position, and the rows of a table by their number.
-use Rattle.std.proofs.Common.{◌≡◌, ℕ, zero, suc, ◌<◌, ◌≤◌, ◌+◌, ◌*◌, ◌^◌, ◌%◌, ◌/◌, eqb, List, [], ◌∷◌, ◌++◌, length, get_or, take, map, Bool, true, false, cond, refl, rules, arith, ap, sym, ◌∙◌, ◌⊎◌, inl, inr, Contains}
+use Rattle.std.proofs.Common.{◌≡◌, ℕ, zero, suc, ◌<◌, ◌≤◌, ◌+◌, ◌^◌, ◌%◌, ◌/◌, eqb, List, [], ◌∷◌, ◌++◌, length, get_or, take, Bool, true, false, refl, arith, ap, sym, ◌∙◌, Contains}
 use Rattle.std.specs.Str.{bytes_eq}
 use Rattle.std.proofs.lemmas.Slice.Eq.{bytes_eq-Decides}
 use Rattle.std.proofs.lemmas.List.{get_or_default, take_more, take_all}

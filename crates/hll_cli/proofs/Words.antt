@@ -1,5 +1,5 @@
 -- Words of a command line.
-use Rattle.std.proofs.Common.{◌≡◌, ℕ, ◌<◌, ◌≤◌, List, [], ◌∷◌, length, get_or, map, refl, arith, ap, sym, ◌∙◌}
+use Rattle.std.proofs.Common.{◌≡◌, ℕ, ◌<◌, ◌≤◌, List, [], ◌∷◌, length, get_or, map, arith, ap, sym, ◌∙◌}
 
 -- what two words are made of
 pub two_words : {X : Type 0} (f : X → List ℕ) (xs : List X) (a b : X) (p : List ℕ) → 2 ≤ length xs → length xs < 3 → a ≡ get_or xs 0 a → b ≡ get_or xs 1 b → f a ≡ p → map f xs ≡ p ∷ f b ∷ []

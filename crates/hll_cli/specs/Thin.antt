@@ -1,5 +1,5 @@
 -- The texts that are built: declarations of Boolean inputs, and obligations over them.
-use Rattle.std.specs.Prelude.{◌≡◌, ℕ, ◌≤◌, List, length}
+use Rattle.std.specs.Prelude.{ℕ, ◌≤◌, List, length}
 use Rattle.std.specs.List.{AllByRecursion, IsDistinct}
 use Rattle.std.specs.Str.{bytes_eq}
 use Rattle.hll_lexer.specs.declared.token.Token.{Token}

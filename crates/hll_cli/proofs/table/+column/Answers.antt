@@ -1,6 +1,6 @@
-use Rattle.std.proofs.Common.{◌≡◌, ℕ, ◌<◌, ◌+◌, ◌^◌, List, [], ◌∷◌, ◌++◌, length, get_or, take, drop, map, Bool, true, false, not, sym, ◌∙◌, ap, subst, arith, add-one}
+use Rattle.std.proofs.Common.{◌^◌, length, sym, ◌∙◌, ap, add-one}
 use Rattle.std.proofs.lemmas.List.{length-map}
-use Rattle.hll_cli.proofs.Columns.{ChainSoFar, not_used, path_used, chain_used_first, chain_used_link, truth_uses, path_uses, not_uses, truth_column, path_column, not_column, chain_start, chain_step, chain_end, links_from, written_whole}
+use Rattle.hll_cli.proofs.Columns.{not_used, path_used, chain_used_first, chain_used_link, truth_uses, path_uses, not_uses, truth_column, path_column, not_column, chain_start, chain_step, links_from, written_whole}
 use Rattle.hll_cli.proofs.table.+column.Goals as goal
 
 pub returns-in_default-clause-unknown : goal.returns-in_default-clause-unknown

@@ -1,4 +1,4 @@
-use Rattle.std.proofs.Common.{◌≡◌, drop, map}
+use Rattle.std.proofs.Common.{drop, map}
 use Rattle.hll_cli.proofs.Columns.{ChainSoFar}
 use Rattle.hll_cli.proofs.table.+column.Given as goal
 

@@ -1,4 +1,4 @@
-use Rattle.std.proofs.Common.{◌≡◌, ℕ, ◌<◌, ◌≤◌, ◌+◌, ◌^◌, ◌%◌, ◌/◌, eqb, List, length, get_or, Bool, true, false, arith, below_more}
+use Rattle.std.proofs.Common.{arith, below_more}
 use Rattle.std.proofs.lemmas.Grind.{common_steps}
 use Rattle.hll_cli.proofs.Rows.{row-at}
 use Rattle.hll_cli.proofs.table.input.Goals as goal

@@ -1,4 +1,4 @@
-use Rattle.std.proofs.Common.{◌≡◌, ℕ, ◌≤◌, ◌<◌, ◌^◌, List, ◌∷◌, [], length, map, Bool, false, not, ◌||◌, ◌+◌}
+use Rattle.std.proofs.Common.{◌≡◌, ℕ, ◌<◌, ◌^◌, length, false}
 use Rattle.std.specs.List.{slice_index_or}
 use Rattle.hll_cli.specs.Table.{row}
 use Rattle.hll_cli.proofs.table.input.Given as goal

@@ -1,4 +1,4 @@
-use Rattle.std.proofs.Common.{◌≡◌, ℕ, ◌≤◌, ◌<◌, ◌^◌, List, ◌∷◌, [], length, map, Bool, false, not, ◌||◌, ◌+◌}
+use Rattle.std.proofs.Common.{◌≡◌, ℕ, ◌≤◌, ◌<◌, false, not}
 use Rattle.std.specs.List.{slice_index_or}
 use Rattle.hll_cli.proofs.table.negate.Given as goal
 

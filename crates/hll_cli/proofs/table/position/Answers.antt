@@ -1,8 +1,6 @@
-use Rattle.std.proofs.Common.{◌≡◌, ℕ, ◌<◌, List, [], length, get_or, map, Bool, true, false, sym, ◌∙◌, ap, arith, below_more}
+use Rattle.std.proofs.Common.{◌≡◌, length, map, sym, ◌∙◌, ap, arith, below_more}
 use Rattle.std.specs.Str.{bytes_eq}
 use Rattle.std.proofs.lemmas.List.{length-map}
-use Rattle.std.proofs.lemmas.List.Elements.{Contains-get_or}
-use Rattle.std.proofs.lemmas.Slice.Eq.{bytes_eq-Decides}
 use Rattle.std.proofs.Math.ListN.{get_or-map}
 use Rattle.hll_cli.proofs.Rows.{value_at-first, not_contained, contained_at}
 use Rattle.hll_cli.proofs.table.position.Goals as goal

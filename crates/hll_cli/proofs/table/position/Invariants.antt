@@ -1,4 +1,4 @@
-use Rattle.std.proofs.Common.{◌≡◌, ℕ, ◌≤◌, ◌<◌, ◌^◌, List, ◌∷◌, [], length, map, Bool, false, not, ◌||◌, ◌+◌}
+use Rattle.std.proofs.Common.{◌≡◌, ℕ, ◌<◌, [], map, false}
 use Rattle.std.specs.List.{slice_index_or}
 use Rattle.std.specs.Str.{bytes_eq}
 use Rattle.hll_cli.proofs.table.position.Given as goal

@@ -1,4 +1,3 @@
-use Rattle.std.proofs.Common.{◌≡◌, map, drop, length, arith}
 use Rattle.std.proofs.lemmas.Bool.{false≢true}
 use Rattle.hll_cli.proofs.Distinct.{distinct_past, not_distinct_at, none_left}
 use Rattle.hll_cli.proofs.thin.are_distinct.Goals as goal

@@ -1,4 +1,4 @@
-use Rattle.std.proofs.Common.{◌≡◌, ◌↔◌, map, drop}
+use Rattle.std.proofs.Common.{◌↔◌, map, drop}
 use Rattle.std.specs.List.{IsDistinct}
 use Rattle.std.specs.Str.{bytes_eq}
 use Rattle.hll_cli.proofs.thin.are_distinct.Given as goal

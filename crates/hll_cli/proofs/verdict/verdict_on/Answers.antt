@@ -1,7 +1,5 @@
-use Rattle.std.proofs.Common.{◌≡◌, ℕ, List, [], ◌∷◌, length, map, Bool, sym, ap, ◌∙◌, subst, refl}
+use Rattle.std.proofs.Common.{sym, refl}
 use Rattle.std.proofs.lemmas.List.{length-map}
-use Rattle.hll_tree.specs.Meaning.{IsShortest}
-use Rattle.hll_cli.specs.Table.{row}
 use Rattle.hll_cli.proofs.Decides.{true_holds, false_breaks}
 use Rattle.hll_cli.proofs.verdict.verdict_on.Goals as goal
 

@@ -1,5 +1,4 @@
-use Rattle.std.proofs.Common.{◌≡◌, ℕ, List, [], ◌∷◌, ◌++◌, map, take, sym}
-use Rattle.std.specs.List.{AllByRecursion}
+use Rattle.std.proofs.Common.{map}
 use Rattle.hll_tree.specs.Meaning.{UsesOnly}
 use Rattle.hll_cli.proofs.Decides.{are_right_push, all_push, all_map_item, take_map_item}
 use Rattle.hll_cli.proofs.verdict.verdicts.Goals as goal
