@@ -11,7 +11,7 @@ use Rattle.hll_tree.specs.declared.tree.Declarator.{Declarator}
 use Rattle.hll_tree.specs.declared.tree.Expr.{Expr, roll-Expr}
 use Rattle.hll_tree.specs.declared.tree.Form.{Truth, Path, Chain, Not}
 use Rattle.hll_tree.specs.declared.tree.HllModel.{HllModel}
-use Rattle.hll_tree.specs.declared.tree.Link.{Link, out-Link}
+use Rattle.hll_tree.specs.declared.tree.Link.{Link}
 use Rattle.hll_tree.specs.declared.tree.Name.{Name}
 use Rattle.hll_tree.specs.declared.tree.Op.{Op}
 use Rattle.hll_tree.specs.declared.tree.Op.TheVariants as op
@@ -61,9 +61,9 @@ pub record IsLink (op : Op) (Operand : Spelling Expr) (ts : List Token) (link : 
   pub rest : List Token
   pub spelled : ts ≡ sign ∷ rest
   pub is_sign : IsMark (mark_of op) sign
-  pub operand : Operand rest (out-Link link).with
-  pub operator : (out-Link link).op ≡ op
-  pub place : (out-Link link).at ≡ sign.from
+  pub operand : Operand rest link.with
+  pub operator : link.op ≡ op
+  pub place : link.at ≡ sign.from
 
 -- two or more operands with operators between them, at the place of the first operator
 pub record IsLinked (op : Op) (Operand : Spelling Expr) (ts : List Token) (e : Expr) : Type 0 where
@@ -75,7 +75,7 @@ pub record IsLinked (op : Op) (Operand : Spelling Expr) (ts : List Token) (e : E
   pub spelled : ts ≡ before ++ after
   pub operand : Operand before first
   pub others : Sequence (IsLink op Operand) after (link ∷ links)
-  pub tree : e ≡ roll-Expr (record { at = (out-Link link).at; form = Chain first (link ∷ links) })
+  pub tree : e ≡ roll-Expr (record { at = link.at; form = Chain first (link ∷ links) })
 
 -- one operand, or several with operators between them
 abbrev pub IsChain : Op → Spelling Expr → Spelling Expr
