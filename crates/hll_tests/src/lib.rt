@@ -4,6 +4,8 @@
 #[cfg(test)]
 mod answers;
 #[cfg(test)]
+mod endless;
+#[cfg(test)]
 mod limits;
 #[cfg(test)]
 mod memory;

@@ -1,0 +1,47 @@
+//! A file without an end.
+
+ghost use Rattle.std.specs.Prelude.{None};
+
+use ports::{Desk, PortFault, ReadFault, read_text};
+use std::test::Fail;
+
+/// It gives what it is asked for, and counts it.
+#[derive(Drop)]
+struct EndlessDesk {
+    given: u64,
+    most: usize,
+}
+
+impl Desk for EndlessDesk {
+    ghost told = { λ _. None };
+
+    ghost read_faults = { λ _ _. 0 };
+
+    ghost write_faults = { λ _ _. 0 };
+
+    fn get(&mut self, _name: &str, _at: u64, into: &mut [u8]) -> Result<usize, PortFault> {
+        self.given = self.given.saturating_add(into.len() as u64);
+        self.most = self.most.max(into.len());
+        Ok(into.len())
+    }
+
+    fn begin(&mut self, _name: &str) -> Result<(), PortFault> {
+        Ok(())
+    }
+
+    fn put(&mut self, _name: &str, piece: &[u8]) -> Result<usize, PortFault> {
+        Ok(piece.len())
+    }
+}
+
+#[test]
+fn a_file_without_end_is_left(rt: HostRuntime) -> Result<(), Fail> {
+    for limit in [0, 4_095, 4_096, 10_000] {
+        let mut desk = EndlessDesk { given: 0, most: 0 };
+        let read = read_text(rt.alloc(), &mut desk, "m", limit);
+        assert!(rt; matches!(read, Err(ReadFault::Long)));
+        assert_eq!(rt; desk.given, limit + 1);
+        assert!(rt; desk.most <= 4_096);
+    }
+    Ok(())
+}
