@@ -132,3 +132,12 @@ fn places_bytes(rt: HostRuntime) -> Result<(), Fail> {
     assert_eq!(rt; word.bytes(), b"signal_1".as_slice());
     Ok(())
 }
+
+/// Compiles and is proved where values of the type may go from thread to thread and be shared by threads.
+fn crosses_threads<T: Send + Sync>() {}
+
+#[test]
+fn words_cross_threads() {
+    crosses_threads::<Word>();
+    crosses_threads::<Token>();
+}

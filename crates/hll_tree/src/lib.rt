@@ -7,3 +7,6 @@
 mod tree;
 
 pub use tree::{Decl, Declarator, Expr, Form, HllModel, Link, Name, Op, Reach, Section, TypeText};
+
+#[cfg(test)]
+mod tests;
