@@ -1,10 +1,10 @@
 -- The value of an expression and the names in it, form by form.
-use Rattle.std.proofs.Common.{◌≡◌, ℕ, Bool, not, List, [], ◌∷◌, ◌++◌, map, refl, ap, sym, ◌∙◌}
+use Rattle.std.proofs.Common.{◌≡◌, ℕ, Bool, not, List, [], ◌∷◌, ◌++◌, map, refl, ap, ◌∙◌}
 use Rattle.std.specs.List.{flat_map}
-use Rattle.hll_tree.specs.declared.tree.Expr.{Expr, out-Expr, roll-Expr, fold-Expr, fold_out-Expr}
-use Rattle.hll_tree.specs.declared.tree.Form.{Form, Truth, Path, Chain, Not, Form-F, fold-Form, fold_out-Form}
+use Rattle.hll_tree.specs.declared.tree.Expr.{Expr, fold_out-Expr}
+use Rattle.hll_tree.specs.declared.tree.Form.{Form, Truth, Path, Chain, Not, fold-Form, fold_out-Form}
 use Rattle.hll_tree.specs.declared.tree.Form.TheVariants.{outs-Truth, outs-Path, outs-Chain, outs-Not}
-use Rattle.hll_tree.specs.declared.tree.Link.{Link, out-Link, fold-Link, fold_out-Link}
+use Rattle.hll_tree.specs.declared.tree.Link.{Link, fold_out-Link}
 use Rattle.hll_tree.specs.declared.tree.Name.{Name}
 use Rattle.hll_tree.specs.declared.tree.Reach.{Reach}
 use Rattle.hll_tree.specs.declared.tree.Op.{Op}
