@@ -43,6 +43,16 @@ pub record IsUnbuilt (words : List (List ℕ)) (files : Files) (output : List �
   pub not_thin : (m : HllModel) → IsThin text m → ⊥
   pub line : output ≡ codes "refused Unbuilt" ++ line_feed
 
+-- the words ask for a text that is built
+pub record AsksForThin (words : List (List ℕ)) (files : Files) : Type 0 where
+  pub name : List ℕ
+  pub text : List ℕ
+  pub model : HllModel
+  pub prove : IsProve words name
+  pub file : files name ≡ Some text
+  pub short : length text ≤ text_limit
+  pub thin : IsThin text model
+
 -- a line on how the command is called
 pub record IsUsage (words : List (List ℕ)) (output : List ℕ) : Type 0 where
   pub not_prove : (name : List ℕ) → IsProve words name → ⊥
@@ -67,6 +77,10 @@ code_of Memory = 7
 -- the numbers that an exit status may be
 abbrev pub IsStatus : ℕ → Type 0
 IsStatus n = (n ≡ 0) ⊎ (n ≡ 1) ⊎ (n ≡ 3) ⊎ (n ≡ 4) ⊎ (n ≡ 5) ⊎ (n ≡ 6) ⊎ (n ≡ 7)
+
+-- the exit statuses of a report, and that of want of memory
+abbrev pub IsReported : ℕ → Type 0
+IsReported n = (n ≡ 0) ⊎ (n ≡ 1) ⊎ (n ≡ 7)
 
 -- what is to be written with a status; a write fault and want of memory have nothing of their own
 abbrev pub IsAnswer : List (List ℕ) → Files → Status → List ℕ → Type 0

@@ -3,7 +3,7 @@
 ghost use Rattle.std.specs.Prelude.{◌≡◌, ℕ, List, ◌⊎◌, map, string_bytes, true, false};
 ghost use Rattle.ports.specs.Causes.{Rose, SameCounts, SameOtherCounts};
 ghost use Rattle.ports.specs.Contents.{Tells, SameFiles};
-ghost use Rattle.hll_cli.specs.Answers.{IsProve, IsDecided, IsLong, IsUnbuilt, IsUsage, IsUnread, Told, Writes, WritesFront, Ends, IsStatus};
+ghost use Rattle.hll_cli.specs.Answers.{IsProve, AsksForThin, IsReported, IsDecided, IsLong, IsUnbuilt, IsUsage, IsUnread, Told, Writes, WritesFront, Ends, IsStatus};
 
 use crate::command::{Status, answer_to};
 use ports::{Desk, Gate, PortFault, Sink, write_all};
@@ -64,6 +64,12 @@ pub fn run<R: Threads + Sync, D: Desk, O: Sink, G: Gate + Sync>(
     ensures unwritten { result ≡ 6 → Told (D.told desk.old) (O.told out.old) (O.told out.new) (WritesFront (map string_bytes words.now)) }
     ensures memory { result ≡ 7 → Told (D.told desk.old) (O.told out.old) (O.told out.new)
         (λ files before now. (now ≡ before) ⊎ WritesFront (map string_bytes words.now) files before now) }
+
+    // A text that is built gets its report, unless the model's file or the output fails, or memory runs out.
+    ensures complete { Told (D.told desk.old) (O.told out.old) (O.told out.new) (λ files before now.
+        (asked : AsksForThin (map string_bytes words.now) files) → IsReported result
+        ⊎ Rose (D.read_faults desk.old asked.name) (D.read_faults desk.new asked.name)
+        ⊎ Rose (O.faults out.old) (O.faults out.new)) }
 
     // No file is changed, and no count but that of the model's reads and that of the sink.
     ensures files { Tells (D.told desk.old) (D.told desk.new) SameFiles }

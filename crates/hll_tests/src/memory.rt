@@ -1,6 +1,8 @@
 //! The command on a text in memory.
 
-ghost use Rattle.std.specs.Prelude.{◌≡◌, IfOk, length};
+ghost use Rattle.std.specs.Prelude.{◌≡◌, IfOk, length, map, string_bytes};
+ghost use Rattle.ports.specs.DeskState.{file_or_empty};
+ghost use Rattle.hll_cli.specs.Answers.{AsksForThin, IsReported};
 
 use hll_cli::run;
 use ports::{Desk, FileText, OpenGate, Sink, SureDesk, SureSink};
@@ -18,6 +20,15 @@ pub fn file(alloc: Global, name: &str, bytes: &[u8]) -> Result<Vec<FileText>, Al
     Ok(vec![in alloc; file]?)
 }
 
+/// The words as the program gets them.
+fn owned(alloc: Global, words: &[&str]) -> Result<Vec<String>, AllocError> {
+    let mut owned = Vec::new(alloc);
+    for word in words {
+        owned.push(String::from_str(alloc, word)?)?;
+    }
+    Ok(owned)
+}
+
 /// Runs the command over any ports.
 pub fn run_over<R: Threads + Sync, D: Desk, O: Sink>(
     rt: &R,
@@ -26,11 +37,22 @@ pub fn run_over<R: Threads + Sync, D: Desk, O: Sink>(
     desk: &mut D,
     out: &mut O,
 ) -> Result<u8, AllocError> {
-    let mut owned = Vec::new(alloc);
-    for word in words {
-        owned.push(String::from_str(alloc, word)?)?;
-    }
-    Ok(run(rt, alloc, &owned, desk, out, &OpenGate))
+    let words = owned(alloc, words)?;
+    Ok(run(rt, alloc, &words, desk, out, &OpenGate))
+}
+
+/// Runs the command over ports that only want of memory stops. There a text that is built gets its report,
+/// unless memory runs out.
+fn run_surely<R: Threads + Sync>(
+    rt: &R,
+    alloc: Global,
+    words: &[String],
+    desk: &mut SureDesk,
+    out: &mut SureSink,
+) -> u8
+    ensures { AsksForThin (map string_bytes words.now) (file_or_empty desk.old.files) → IsReported result }
+{
+    run(rt, alloc, words, desk, out, &OpenGate)
 }
 
 /// The status of `prove m` on a text, and what it writes.
@@ -41,6 +63,7 @@ pub fn prove<R: Threads + Sync>(
 ) -> Result<(u8, SureSink), AllocError> {
     let mut desk = SureDesk::new(alloc, file(alloc, "m", text)?);
     let mut out = SureSink::new(alloc);
-    let status = run_over(rt, alloc, &["prove", "m"], &mut desk, &mut out)?;
+    let words = owned(alloc, &["prove", "m"])?;
+    let status = run_surely(rt, alloc, &words, &mut desk, &mut out);
     Ok((status, out))
 }
