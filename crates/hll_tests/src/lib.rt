@@ -9,3 +9,5 @@ mod endless;
 mod limits;
 #[cfg(test)]
 mod memory;
+#[cfg(test)]
+mod values;
