@@ -25,15 +25,18 @@ AreRight m (e ∷ es) (v ∷ vs) = IsRight m e v × AreRight m es vs
 AreRight m [] (v ∷ vs) = ⊥
 AreRight m (e ∷ es) [] = ⊥
 
+-- the verdict is that the obligation is falsified
 abbrev pub is_falsified : Verdict → Bool
 is_falsified (Proved k) = false
 is_falsified (Falsified trace) = true
 
 -- ---- how it is printed
 
+-- the end of a line
 abbrev pub line_feed : List ℕ
 line_feed = 10 ∷ []
 
+-- a truth value as it is printed
 abbrev pub truth_text : Bool → List ℕ
 truth_text true = codes "true"
 truth_text false = codes "false"
@@ -83,6 +86,7 @@ counts_text verdicts =
     let falsified = count_by is_falsified verdicts in
     codes "proved " ++ decimal (length verdicts - falsified) ++ codes " falsified " ++ decimal falsified ++ codes " undecided 0" ++ line_feed
 
+-- the whole report: the obligations with their verdicts, and the counts
 abbrev pub report_text : List ℕ → HllModel → List Verdict → List ℕ
 report_text text m verdicts = obligations_text text (variables m) 1 (obligations m) verdicts ++ counts_text verdicts
 

@@ -3,6 +3,7 @@ use Rattle.std.specs.Prelude.{ℕ, ◌+◌, Bool, ◌==◌, List, length, take, 
 use Rattle.std.specs.List.{after_last}
 use Rattle.hll_lexer.specs.declared.places.LineColumn.{LineColumn}
 
+-- the byte that ends a line
 abbrev pub is_line_feed : ℕ → Bool
 is_line_feed b = b == 10
 

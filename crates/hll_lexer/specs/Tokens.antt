@@ -14,6 +14,7 @@ use Rattle.hll_lexer.specs.Words.{IsWord, reserved_of, is_built}
 abbrev pub is_blank : ℕ → Bool
 is_blank b = b == 32 || b == 9 || b == 10 || b == 13
 
+-- all of these bytes are blanks
 abbrev pub AreBlanks : List ℕ → Type 0
 AreBlanks bytes = IsTrue (list_all is_blank bytes)
 

@@ -22,6 +22,7 @@ abbrev pub variables_in : Section → List (List ℕ)
 variables_in (Inputs decls) = flat_map declared_names decls
 variables_in (Obligations es) = []
 
+-- the variables of all sections, one after the other
 abbrev pub variables : HllModel → List (List ℕ)
 variables m = flat_map variables_in m.sections
 
@@ -30,6 +31,7 @@ abbrev pub obligations_in : Section → List Expr
 obligations_in (Inputs decls) = []
 obligations_in (Obligations es) = es
 
+-- the obligations of all sections, one after the other
 abbrev pub obligations : HllModel → List Expr
 obligations m = flat_map obligations_in m.sections
 
@@ -41,6 +43,7 @@ constraints m = []
 abbrev pub Instant : Type 0
 Instant = List Bool
 
+-- instants one after the other, from time 0 on
 abbrev pub History : Type 0
 History = List Instant
 
@@ -117,6 +120,7 @@ form_names (Form-F.Path name reaches) = name.text ∷ []
 form_names (Form-F.Chain first links) = first ++ flat_map (λ names. names) links
 form_names (Form-F.Not names) = names
 
+-- each name in an expression, as often as it stands there
 unfoldable pub names_in : Expr → List (List ℕ)
 names_in = fold-Expr (List (List ℕ)) (List (List ℕ)) (List (List ℕ)) form_names (λ e. e.form) (λ link. link.with)
 

@@ -23,9 +23,11 @@ use Rattle.hll_tree.specs.declared.tree.TypeText.TheVariants as ty
 abbrev pub Spelling : Type 0 → Type 1
 Spelling A = List Token → A → Type 0
 
+-- the token is this mark
 abbrev pub IsMark : Mark → Token → Type 0
 IsMark m t = t.kind ≡ kind.Mark m
 
+-- the token is this reserved word
 abbrev pub IsWord : Reserved → Token → Type 0
 IsWord w t = t.kind ≡ kind.Reserved w
 
@@ -85,6 +87,7 @@ IsChain op Operand ts e = Operand ts e ⊎ IsLinked op Operand ts e
 abbrev pub IsImplication : Spelling Expr → Spelling Expr
 IsImplication Unary = IsChain op.Implies (IsChain op.Or (IsChain op.And Unary))
 
+-- a word for a truth value, alone
 pub record IsTruthValue (ts : List Token) (e : Expr) : Type 0 where
   pub word : Token
   pub value : Bool
@@ -92,6 +95,7 @@ pub record IsTruthValue (ts : List Token) (e : Expr) : Type 0 where
   pub is_word : IsTruth value word
   pub tree : e ≡ roll-Expr (record { at = word.from; form = Truth value })
 
+-- a name, alone: the value of that input
 pub record IsPath (text : List ℕ) (ts : List Token) (e : Expr) : Type 0 where
   pub word : Token
   pub name : Name
@@ -99,6 +103,7 @@ pub record IsPath (text : List ℕ) (ts : List Token) (e : Expr) : Type 0 where
   pub is_name : IsName text word name
   pub tree : e ≡ roll-Expr (record { at = word.from; form = Path name [] })
 
+-- `~` and its operand
 pub record IsNegation (Unary : Spelling Expr) (ts : List Token) (e : Expr) : Type 0 where
   pub sign : Token
   pub rest : List Token
@@ -123,9 +128,11 @@ unfoldable pub IsUnary : List ℕ → ℕ → Spelling Expr
 IsUnary text zero ts e = IsTruthValue ts e ⊎ IsPath text ts e
 IsUnary text (suc levels) ts e = IsTruthValue ts e ⊎ IsPath text ts e ⊎ IsNegation (IsUnary text levels) ts e ⊎ IsParenthesised (IsUnary text levels) ts e
 
+-- an expression in which at most so many levels are open at once
 abbrev pub IsExpression : List ℕ → ℕ → Spelling Expr
 IsExpression text levels = IsImplication (IsUnary text levels)
 
+-- a name that is declared
 pub record IsDeclarator (text : List ℕ) (ts : List Token) (d : Declarator) : Type 0 where
   pub word : Token
   pub spelled : ts ≡ word ∷ []
@@ -145,6 +152,7 @@ abbrev pub AreNames : List ℕ → Spelling (List Declarator)
 AreNames text ts [] = ⊥
 AreNames text ts (d ∷ ds) = (us : List Token) × (vs : List Token) × (ts ≡ us ++ vs) × IsDeclarator text us d × Sequence (IsFurtherName text) vs ds
 
+-- `bool` and the names of one declaration
 pub record IsDecl (text : List ℕ) (ts : List Token) (decl : Decl) : Type 0 where
   pub word : Token
   pub rest : List Token
@@ -153,6 +161,7 @@ pub record IsDecl (text : List ℕ) (ts : List Token) (decl : Decl) : Type 0 whe
   pub names : AreNames text rest decl.names
   pub type_text : decl.ty ≡ ty.Bool
 
+-- `Inputs:` and declarations, each ended by `;`
 pub record IsInputs (text : List ℕ) (ts : List Token) (decls : List Decl) : Type 0 where
   pub inputs : Token
   pub colon : Token
@@ -162,6 +171,7 @@ pub record IsInputs (text : List ℕ) (ts : List Token) (decls : List Decl) : Ty
   pub is_colon : IsMark mark.Colon colon
   pub declarations : Sequence (EndedBy mark.Semicolon (IsDecl text)) rest decls
 
+-- `Proof Obligations:` and expressions, each ended by `;`
 pub record IsObligations (text : List ℕ) (levels : ℕ) (ts : List Token) (es : List Expr) : Type 0 where
   pub proof : Token
   pub obligations : Token
@@ -173,6 +183,7 @@ pub record IsObligations (text : List ℕ) (levels : ℕ) (ts : List Token) (es 
   pub is_colon : IsMark mark.Colon colon
   pub expressions : Sequence (EndedBy mark.Semicolon (IsExpression text levels)) rest es
 
+-- a section of either kind
 abbrev pub IsSection : List ℕ → ℕ → Spelling Section
 IsSection text levels ts (Inputs decls) = IsInputs text ts decls
 IsSection text levels ts (Obligations es) = IsObligations text levels ts es
