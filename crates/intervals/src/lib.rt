@@ -1,0 +1,9 @@
+//! Intervals of whole numbers: for each operation the ends between which its values lie.
+#![tactic(auto)]
+
+mod hull;
+mod interval;
+mod operations;
+mod sizes;
+
+pub use interval::Interval;
