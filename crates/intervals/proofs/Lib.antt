@@ -1,1 +1,6 @@
 pub mod AnswerLemmas
+pub mod ProductLemmas
+pub mod DigitLemmas
+pub mod RemainderLemmas
+pub mod HullLemmas
+pub mod DivisionLemmas

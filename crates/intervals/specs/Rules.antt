@@ -1,5 +1,5 @@
 -- The ends of each operation, over whole numbers without bounds.
-use Rattle.std.specs.Prelude.{ℕ, List, [], ◌∷◌, ◌++◌, ℤ, pos, negsuc, ◌+ℤ◌, ◌-ℤ◌, ◌*ℤ◌, neg_ℤ, int_lt, int_le, Bool, ◌&&◌, max, unsigned_abs, if◌then◌else◌}
+use Rattle.std.specs.Prelude.{ℕ, List, [], ◌∷◌, ◌++◌, ℤ, pos, negsuc, ◌+ℤ◌, ◌-ℤ◌, ◌*ℤ◌, neg_ℤ, int_lt, int_le, Bool, ◌&&◌, unsigned_abs, if◌then◌else◌}
 use Rattle.std.specs.List.{fold}
 use Rattle.std.specs.Int.{int_min, int_max}
 use Rattle.intervals.specs.Ends.{Ends}
@@ -47,7 +47,7 @@ ratio a b = hull_of (end_quotients a (ends_below_zero b) ++ (end_quotients a (en
 
 -- the greatest absolute value
 abbrev pub greatest_size : Ends → ℤ
-greatest_size e = pos (max (unsigned_abs e.lo) (unsigned_abs e.hi))
+greatest_size e = int_max (pos (unsigned_abs e.lo)) (pos (unsigned_abs e.hi))
 
 -- from 0 to the dividend; where b doesn't hold 0, no further from 0 than one less than the greatest size of b
 abbrev pub modulus : Ends → Ends → Ends

@@ -59,16 +59,7 @@ impl Interval {
     pub fn div(&self, other: &Interval) -> Option<Interval>
         ensures { IsInterval result (ratio (ends self.now) (ends other.now)) }
     {
-        let first = if other.lo == 0 {
-            0
-        } else {
-            self.lo / other.lo
-        };
-        Hull::of(first)
-            .with_below_zero(self, other)
-            .with_above_zero(self, other)
-            .with_zero(other)
-            .interval()
+        Hull::of_quotients(self, other).interval()
     }
 
     /// The remainders have the sign of the dividend, and those by zero are the dividend.
