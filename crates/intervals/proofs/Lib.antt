@@ -4,3 +4,4 @@ pub mod DigitLemmas
 pub mod RemainderLemmas
 pub mod HullLemmas
 pub mod DivisionLemmas
+pub mod Soundness

@@ -4,3 +4,4 @@ pub mod Rules
 pub mod Answers
 pub mod Hulls
 pub mod Products
+pub mod Sound

@@ -1,5 +1,5 @@
 -- Operations on whole numbers, and the least number of a kind.
-use Rattle.std.specs.Prelude.{ℕ, ◌-◌, ◌^◌, ◌<◌, ◌≤◌, ℤ, pos, neg_ℤ, ◌≤ℤ◌, ◌<ℤ◌, ◌-ℤ◌, int_div, int_rem}
+use Rattle.std.specs.Prelude.{ℕ, ◌-◌, ◌^◌, ◌<◌, ◌≤◌, ℤ, pos, neg_ℤ, ◌+ℤ◌, unsigned_abs, List, [], ◌∷◌, ◌≤ℤ◌, ◌<ℤ◌, ◌-ℤ◌, int_div, int_rem}
 use Rattle.intervals.specs.Ends.{Ends}
 
 -- a / b, truncated toward zero; by 0 it is 0
@@ -9,6 +9,15 @@ quotient a b = int_div a b
 -- a % b, with the sign of a; by 0 it is a
 abbrev pub remainder : ℤ → ℤ → ℤ
 remainder a b = int_rem a b
+
+-- the sum of some numbers
+abbrev pub total : List ℤ → ℤ
+total [] = pos 0
+total (x ∷ xs) = x +ℤ total xs
+
+-- without its sign
+abbrev pub size : ℤ → ℤ
+size x = pos (unsigned_abs x)
 
 -- n is the least number with P
 pub record IsLeast (P : ℕ → Type 0) (n : ℕ) : Type 0 where

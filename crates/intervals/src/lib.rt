@@ -3,7 +3,9 @@
 
 mod hull;
 mod interval;
+mod laws;
 mod operations;
 mod sizes;
 
 pub use interval::Interval;
+pub use laws::rules_are_sound;
