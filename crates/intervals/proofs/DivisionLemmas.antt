@@ -63,7 +63,7 @@ part_above e h = let p = sym (is_lt (pos 0) e.hi h) in rw p refl
 pub part_below : (e : Ends) → e.lo <ℤ pos 0 → ends_below_zero e ≡ e.lo ∷ int_min e.hi (negsuc 0) ∷ []
 part_below e h = let p = sym (is_lt e.lo (pos 0) h) in rw p refl
 
-zero_held : (e : Ends) → e.lo ≤ℤ pos 0 → pos 0 ≤ℤ e.hi → zero_of e ≡ pos 0 ∷ []
+pub zero_held : (e : Ends) → e.lo ≤ℤ pos 0 → pos 0 ≤ℤ e.hi → zero_of e ≡ pos 0 ∷ []
 zero_held e h k = let p = sym (is_le e.lo (pos 0) h) in let q = sym (is_le (pos 0) e.hi k) in rw (p, q) refl
 
 -- by 0 a quotient is 0

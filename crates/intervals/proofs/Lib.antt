@@ -5,3 +5,4 @@ pub mod RemainderLemmas
 pub mod HullLemmas
 pub mod DivisionLemmas
 pub mod Soundness
+pub mod QuotientSoundness

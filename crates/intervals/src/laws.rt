@@ -12,6 +12,8 @@ pub fn rules_are_sound()
     ensures sums { AreSound sum ◌+ℤ◌ }
     ensures differences { AreSound difference ◌-ℤ◌ }
     ensures products { AreSound product ◌*ℤ◌ }
+    ensures quotients { AreSound ratio quotient }
+    ensures remainders { AreSound modulus remainder }
     ensures smaller_ones { AreSound smaller int_min }
     ensures greater_ones { AreSound greater int_max }
     ensures either { (a b : Ends) → HoldsBoth a b }
@@ -19,4 +21,10 @@ pub fn rules_are_sound()
     ensures sizes { IsSound absolute size }
     ensures multiples { (n : ℕ) → IsSound (multiple n) (λ x. pos n *ℤ x) }
     ensures totals { TotalIsSound }
+{}
+
+/// Quotients are truncated toward zero: what is left has the sign of the dividend and is smaller than the divisor.
+pub fn division_truncates()
+    ensures divided { (a b : ℤ) → Divides a b }
+    ensures by_zero { (a : ℤ) → DividesByZero a }
 {}

@@ -8,4 +8,4 @@ mod operations;
 mod sizes;
 
 pub use interval::Interval;
-pub use laws::rules_are_sound;
+pub use laws::{division_truncates, rules_are_sound};
