@@ -1,5 +1,5 @@
 -- From what `new` answers to what the operations answer.
-use Rattle.std.proofs.Common.{◌≡◌, ◌-◌, ◌^◌, ◌<◌, unsigned_abs, ℤ, pos, negsuc, ◌+ℤ◌, to_z, of_z, to_z-of_z, FitsSigned, ◌≤ℤ◌, ◌<ℤ◌, ◌⊎◌, inl, inr, refl, sym, ap, subst, ◌∙◌, ⊎_elim, arith, Option, Some, None}
+use Rattle.std.proofs.Common.{◌≡◌, ◌-◌, ◌^◌, ◌<◌, unsigned_abs, ℤ, pos, negsuc, ◌+ℤ◌, to_z, of_z, to_z-of_z, FitsSigned, ◌≤ℤ◌, ◌<ℤ◌, inl, inr, sym, subst, ⊎_elim, arith, Option, Some, None}
 use Rattle.std.proofs.lemmas.Int.{ints, by_lt_z}
 use Rattle.std.specs.Int.{w128}
 use Rattle.std.specs.Int.Signed.{mag}

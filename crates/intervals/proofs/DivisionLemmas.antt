@@ -1,17 +1,15 @@
 -- Quotients of ends, and their hull.
-use Rattle.std.proofs.Common.{◌≡◌, ◌≢◌, ℕ, zero, suc, ◌+◌, ◌*◌, ◌-◌, ◌^◌, ◌<◌, ◌≤◌, ◌/◌, ℤ, pos, negsuc, ◌+ℤ◌, ◌-ℤ◌, neg_ℤ, ◌≤ℤ◌, ◌<ℤ◌, ◌⊎◌, inl, inr, ⊎_elim, refl, sym, ap, subst, ◌∙◌, arith, List, [], ◌∷◌, ◌++◌, FitsSigned, to_z, of_z, to_z-of_z, unsigned_abs, int_div, true, false}
+use Rattle.std.proofs.Common.{◌≡◌, ℕ, zero, suc, ◌^◌, ◌<◌, ◌≤◌, ◌/◌, ℤ, pos, negsuc, neg_ℤ, ◌≤ℤ◌, ◌<ℤ◌, inl, refl, sym, ap, subst, ◌∙◌, arith, [], ◌∷◌, ◌++◌, FitsSigned, to_z, of_z, unsigned_abs, int_div, true}
 use Rattle.std.proofs.Math.Nat.{div-le_self, div-zero}
 use Rattle.std.proofs.lemmas.Int.{ints, clamps, by_lt_z, fits_signed_from_abs, quot_is}
-use Rattle.std.proofs.lemmas.List.Sums.{fold-append}
-use Rattle.std.specs.List.{fold}
 use Rattle.std.specs.Int.{w128, int_min, int_max}
 use Rattle.std.specs.Int.RustNames.{int_lt, int_le}
 use Rattle.intervals.specs.declared.interval.Interval.{Interval}
 use Rattle.intervals.specs.Ends.{Ends}
 use Rattle.intervals.specs.Hulls.{extended}
-use Rattle.intervals.specs.Rules.{hull_of, end_quotients, ends_above_zero, ends_below_zero, zero_of, ratio}
+use Rattle.intervals.specs.Rules.{end_quotients, ends_above_zero, ends_below_zero, zero_of, ratio}
 use Rattle.intervals.specs.Numbers.{quotient}
-use Rattle.intervals.proofs.AnswerLemmas.{back, back_lo, back_hi, small_lo, small_hi}
+use Rattle.intervals.proofs.AnswerLemmas.{back, back_hi, small_lo, small_hi}
 use Rattle.intervals.proofs.HullLemmas.{Among, Among_right, extended_append, from_member, hull_holds}
 
 abs_neg : (n : ℕ) → unsigned_abs (neg_ℤ (pos n)) ≡ n
@@ -79,14 +77,14 @@ first_among a b h =
     by_lt_z b.lo (pos 0)
     (λ low. subst (λ ds. Among q (end_quotients a ds ++ rest)) (sym (part_below b low)) (inl refl))
     (λ some. Among_right q (end_quotients a (ends_below_zero b)) rest
-        (by_lt_z (pos 0) b.lo
-            (λ high.
-                let same : b.lo ≡ int_max b.lo (pos 1) = omega (arith, ints, clamps) in
-                subst (λ ds. Among q (end_quotients a ds ++ zero_of b)) (sym (part_above b (omega (arith, ints)))) (inl (ap (quotient a.lo) same)))
-            (λ none.
-                let zeroed : b.lo ≡ pos 0 = omega (arith, ints) in
-                Among_right q (end_quotients a (ends_above_zero b)) (zero_of b)
-                (subst (Among q) (sym (zero_held b none (omega (arith, ints)))) (inl (ap (quotient a.lo) zeroed ∙ quotient_by_zero a.lo))))))
+    (by_lt_z (pos 0) b.lo
+    (λ high.
+    let same : b.lo ≡ int_max b.lo (pos 1) = omega (arith, ints, clamps) in
+    subst (λ ds. Among q (end_quotients a ds ++ zero_of b)) (sym (part_above b (omega (arith, ints)))) (inl (ap (quotient a.lo) same)))
+    (λ none.
+    let zeroed : b.lo ≡ pos 0 = omega (arith, ints) in
+    Among_right q (end_quotients a (ends_above_zero b)) (zero_of b)
+    (subst (Among q) (sym (zero_held b none (omega (arith, ints)))) (inl (ap (quotient a.lo) zeroed ∙ quotient_by_zero a.lo))))))
 
 -- the quotients taken one part after another, from one of them on
 pub quotients_taken : (a b e f g h : Ends) → b.lo ≤ℤ b.hi → e ≡ record { lo = quotient a.lo b.lo; hi = quotient a.lo b.lo } → f ≡ extended e (end_quotients a (ends_below_zero b)) → g ≡ extended f (end_quotients a (ends_above_zero b)) → h ≡ extended g (zero_of b) → h ≡ ratio a b

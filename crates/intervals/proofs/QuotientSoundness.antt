@@ -1,12 +1,12 @@
 -- The rules of quotients and remainders are sound.
-use Rattle.std.proofs.Common.{◌≡◌, ℕ, zero, suc, ◌+◌, ◌*◌, ◌/◌, ◌%◌, ◌<◌, ◌≤◌, ℤ, pos, negsuc, neg_ℤ, ◌+ℤ◌, ◌-ℤ◌, ◌*ℤ◌, ◌≤ℤ◌, ◌<ℤ◌, ◌⊎◌, inl, inr, ⊎_elim, refl, sym, ap, subst, ◌∙◌, arith, List, [], ◌∷◌, ◌++◌, unsigned_abs}
-use Rattle.std.proofs.Math.Nat.{div-mul-le_self, mod-le, mod-zero, zero-mod, mul-le-mul_left}
+use Rattle.std.proofs.Common.{◌≡◌, ℕ, zero, suc, ◌*◌, ◌/◌, ◌%◌, ◌<◌, ◌≤◌, ℤ, pos, negsuc, neg_ℤ, ◌-ℤ◌, ◌≤ℤ◌, ◌<ℤ◌, ◌⊎◌, inl, inr, refl, sym, ap, subst, ◌∙◌, arith, [], ◌∷◌, ◌++◌, unsigned_abs}
+use Rattle.std.proofs.Math.Nat.{div-mul-le_self, mod-le, mod-zero, mul-le-mul_left}
 use Rattle.std.proofs.lemmas.Int.{ints, clamps, by_lt_z, quot-rem, rem_below}
 use Rattle.std.proofs.lemmas.Nat.{le-div}
 use Rattle.std.specs.Int.{int_min, int_max}
 use Rattle.intervals.specs.Ends.{Ends, Holds}
 use Rattle.intervals.specs.Numbers.{quotient, remainder, size}
-use Rattle.intervals.specs.Rules.{negation, ratio, modulus, greatest_size, end_quotients, ends_above_zero, ends_below_zero, zero_of, hull_of}
+use Rattle.intervals.specs.Rules.{negation, ratio, modulus, greatest_size, end_quotients, ends_above_zero, ends_below_zero, zero_of}
 use Rattle.intervals.specs.Sound.{AreSound, Divides, DividesByZero}
 use Rattle.intervals.proofs.HullLemmas.{Among, Among_left, Among_right, hull_holds}
 use Rattle.intervals.proofs.DivisionLemmas.{part_above, part_below, zero_held, quotient_by_zero}
@@ -96,13 +96,13 @@ taken_above : (a b : Ends) (x : ℤ) → Among x (end_quotients a (ends_above_ze
 taken_above a b x h =
     hull_holds x (end_quotients a (ends_below_zero b) ++ (end_quotients a (ends_above_zero b) ++ zero_of b))
     (Among_right x (end_quotients a (ends_below_zero b)) (end_quotients a (ends_above_zero b) ++ zero_of b)
-        (Among_left x (end_quotients a (ends_above_zero b)) (zero_of b) h))
+    (Among_left x (end_quotients a (ends_above_zero b)) (zero_of b) h))
 
 taken_zero : (a b : Ends) (x : ℤ) → Among x (zero_of b) → Holds (ratio a b) x
 taken_zero a b x h =
     hull_holds x (end_quotients a (ends_below_zero b) ++ (end_quotients a (ends_above_zero b) ++ zero_of b))
     (Among_right x (end_quotients a (ends_below_zero b)) (end_quotients a (ends_above_zero b) ++ zero_of b)
-        (Among_right x (end_quotients a (ends_above_zero b)) (zero_of b) h))
+    (Among_right x (end_quotients a (ends_above_zero b)) (zero_of b) h))
 
 four_of : (e a : Ends) (c d : ℤ) → ((x : ℤ) → Among x (end_quotients a (c ∷ d ∷ [])) → Holds e x) → Quotients e a c d
 four_of e a c d f = record {
@@ -138,8 +138,8 @@ ratio_sound a b x y h k =
     by_lt_z y (pos 0)
     (λ low. by_below a b x y h k low)
     (λ some. by_lt_z (pos 0) y
-        (λ high. by_above a b x y h k high)
-        (λ none. by_zero a b x y k (omega (arith, ints))))
+    (λ high. by_above a b x y h k high)
+    (λ none. by_zero a b x y k (omega (arith, ints))))
 
 -- ---- remainders
 neg_small : (m n : ℕ) → m ≤ suc n → (negsuc n ≤ℤ neg_ℤ (pos m)) × (neg_ℤ (pos m) ≤ℤ pos 0)
@@ -231,5 +231,5 @@ modulus_sound a b x y h k =
     by_lt_z (pos 0) b.lo
     (λ high. without_zero a b x y h k (inl high) (apart_above b y k high))
     (λ some. by_lt_z b.hi (pos 0)
-        (λ low. without_zero a b x y h k (inr low) (apart_below b y k low))
-        (λ rest. subst (λ (e : Ends). Holds e (remainder x y)) (sym (modulus_with_zero a b some rest)) (within_dividend a x y h)))
+    (λ low. without_zero a b x y h k (inr low) (apart_below b y k low))
+    (λ rest. subst (λ (e : Ends). Holds e (remainder x y)) (sym (modulus_with_zero a b some rest)) (within_dividend a x y h)))

@@ -1,5 +1,5 @@
 -- The rule of remainders, by whether the divisor holds 0.
-use Rattle.std.proofs.Common.{◌≡◌, ℤ, pos, negsuc, ◌≤ℤ◌, ◌<ℤ◌, ◌-ℤ◌, ◌⊎◌, ⊎_elim, refl, sym, ap, ◌∙◌, Bool, true, false, ◌&&◌, if◌then◌else◌, inl, inr, unsigned_abs, FitsSigned, to_z, of_z, arith}
+use Rattle.std.proofs.Common.{◌≡◌, ℤ, pos, negsuc, ◌≤ℤ◌, ◌<ℤ◌, ◌-ℤ◌, ◌⊎◌, ⊎_elim, refl, sym, ap, ◌∙◌, Bool, true, false, ◌&&◌, inl, inr, unsigned_abs, FitsSigned, to_z, of_z, arith}
 use Rattle.std.proofs.lemmas.Int.{ints, clamps}
 use Rattle.std.specs.Int.{w128, int_min, int_max}
 use Rattle.std.specs.Int.RustNames.{int_le}

@@ -1,14 +1,13 @@
 -- The rules of the operations by the ends, products and multiples are sound.
-use Rattle.std.proofs.Common.{◌≡◌, ℕ, suc, ◌+◌, ◌*◌, ◌≤◌, ℤ, pos, negsuc, neg_ℤ, ◌+ℤ◌, ◌-ℤ◌, ◌*ℤ◌, ◌≤ℤ◌, ◌<ℤ◌, ◌⊎◌, inl, inr, refl, sym, ap, subst, ◌∙◌, arith, List, [], ◌∷◌, length, unsigned_abs, true, false}
+use Rattle.std.proofs.Common.{◌≡◌, ℕ, suc, ◌*◌, ◌≤◌, ℤ, pos, negsuc, neg_ℤ, ◌+ℤ◌, ◌-ℤ◌, ◌*ℤ◌, ◌≤ℤ◌, ◌<ℤ◌, refl, sym, subst, arith, [], ◌∷◌, length, true, false}
 use Rattle.std.proofs.Math.Nat.{mul-le-mul_left}
 use Rattle.std.proofs.Math.IntN.{*ℤ_comm}
 use Rattle.std.proofs.lemmas.Int.{ints, clamps, by_lt_z}
-use Rattle.std.specs.List.{AllByRecursion}
 use Rattle.std.specs.Int.{int_min, int_max}
 use Rattle.std.specs.Int.RustNames.{int_le}
 use Rattle.intervals.specs.Ends.{Ends, Holds}
 use Rattle.intervals.specs.Numbers.{size, total}
-use Rattle.intervals.specs.Rules.{sum, difference, product, hull, smaller, greater, negation, absolute, multiple}
+use Rattle.intervals.specs.Rules.{sum, difference, product, smaller, greater, negation, absolute, multiple}
 use Rattle.intervals.specs.Sound.{IsSound, AreSound, HoldsBoth, TotalIsSound}
 use Rattle.intervals.proofs.ProductLemmas.{corners, multiple_order}
 
@@ -63,8 +62,8 @@ pub absolute_sound : IsSound absolute size
 absolute_sound a x h =
     by_lt_z a.lo (pos 0)
     (λ low. by_lt_z (pos 0) a.hi
-        (λ high. let w = size_within a.lo a.hi x h.above h.below in subst (λ (e : Ends). Holds e (size x)) (sym (absolute_across a low high)) (record { above = w.0; below = w.1 }))
-        (λ under. subst (λ (e : Ends). Holds e (size x)) (sym (absolute_below a low under)) (subst (Holds (negation a)) (sym (size_below x (omega (arith, ints)))) (negation_sound a x h))))
+    (λ high. let w = size_within a.lo a.hi x h.above h.below in subst (λ (e : Ends). Holds e (size x)) (sym (absolute_across a low high)) (record { above = w.0; below = w.1 }))
+    (λ under. subst (λ (e : Ends). Holds e (size x)) (sym (absolute_below a low under)) (subst (Holds (negation a)) (sym (size_below x (omega (arith, ints)))) (negation_sound a x h))))
     (λ some. subst (λ (e : Ends). Holds e (size x)) (sym (absolute_above a some)) (subst (Holds a) (sym (size_above x (omega (arith, ints)))) h))
 
 -- ---- multiples

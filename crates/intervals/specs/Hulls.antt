@@ -1,5 +1,5 @@
 -- What the calls that build a hull answer.
-use Rattle.std.specs.Prelude.{◌≡◌, ℤ, List}
+use Rattle.std.specs.Prelude.{ℤ, List}
 use Rattle.std.specs.List.{fold}
 use Rattle.std.specs.Int.{int_min, int_max}
 use Rattle.intervals.specs.Ends.{Ends}

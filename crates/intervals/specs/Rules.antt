@@ -54,9 +54,9 @@ abbrev pub modulus : Ends → Ends → Ends
 modulus a b =
     if holds_zero b then record { lo = int_min a.lo (pos 0); hi = int_max a.hi (pos 0) }
     else record {
-        lo = int_max (int_min a.lo (pos 0)) (pos 1 -ℤ greatest_size b);
-        hi = int_min (int_max a.hi (pos 0)) (greatest_size b -ℤ pos 1);
-      }
+      lo = int_max (int_min a.lo (pos 0)) (pos 1 -ℤ greatest_size b);
+      hi = int_min (int_max a.hi (pos 0)) (greatest_size b -ℤ pos 1);
+    }
 
 abbrev pub hull : Ends → Ends → Ends
 hull a b = record { lo = int_min a.lo b.lo; hi = int_max a.hi b.hi }

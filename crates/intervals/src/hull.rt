@@ -39,7 +39,10 @@ impl Hull {
     pub(crate) fn of(value: i128) -> Hull
         ensures { reached result ≡ record { lo = value; hi = value } }
     {
-        Hull { lo: value, hi: value }
+        Hull {
+            lo: value,
+            hi: value,
+        }
     }
 
     pub(crate) fn with(self, value: i128) -> Hull
@@ -56,8 +59,7 @@ impl Hull {
         requires { ¬ (divisor ≡ pos 0) }
         ensures { reached result ≡ extended (reached self) (end_quotients (ends dividend.now) (divisor ∷ [])) }
     {
-        self.with(dividend.lo / divisor)
-            .with(dividend.hi / divisor)
+        self.with(dividend.lo / divisor).with(dividend.hi / divisor)
     }
 
     /// With the quotients by the part of the divisor below 0.

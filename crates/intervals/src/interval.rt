@@ -11,6 +11,7 @@ pub struct Interval {
 }
 
 const UNSIGNED_MAX: i128 = 0xFFFF_FFFF_FFFF_FFFF;
+
 const SIGNED_MAX: i128 = 0x7FFF_FFFF_FFFF_FFFF;
 
 impl Interval {

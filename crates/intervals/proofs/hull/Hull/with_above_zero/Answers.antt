@@ -1,6 +1,6 @@
-use Rattle.std.proofs.Common.{pos, negsuc, sym, ap, ◌∙◌, [], ◌∷◌, arith}
+use Rattle.std.proofs.Common.{pos, sym, ap, ◌∙◌, [], ◌∷◌, arith}
 use Rattle.std.proofs.lemmas.Int.{ints}
-use Rattle.std.specs.Int.{int_min, int_max}
+use Rattle.std.specs.Int.{int_max}
 use Rattle.intervals.specs.Answers.{ends}
 use Rattle.intervals.specs.Hulls.{extended, reached}
 use Rattle.intervals.specs.Rules.{end_quotients}

@@ -48,8 +48,8 @@ interval-requires c =
     let r = back c.in_ok-third.third (search rules) ∙ c.in_ok-third.ensures ∙ (λ i. back_hi a i *ℤ back_lo b i) in
     let s = back c.in_ok-last.last (search rules) ∙ c.in_ok-last.ensures ∙ (λ i. back_hi a i *ℤ back_hi b i) in
     let same : reached c.with-3.result ≡ product (ends a) (ends b) =
-        four _ _ _ _ _ _ _ _ c.of.ensures c.with.ensures c.with-2.ensures c.with-3.ensures
-        ∙ (λ i. hull_of (p i ∷ q i ∷ r i ∷ s i ∷ []))
+    four _ _ _ _ _ _ _ _ c.of.ensures c.with.ensures c.with-2.ensures c.with-3.ensures
+    ∙ (λ i. hull_of (p i ∷ q i ∷ r i ∷ s i ∷ []))
     in
     subst (λ (e : Ends). e.lo ≤ℤ e.hi) (sym same) (corners_order (a.lo *ℤ b.lo) (a.lo *ℤ b.hi) (a.hi *ℤ b.lo) (a.hi *ℤ b.hi))
 
@@ -62,7 +62,7 @@ returns c =
     let r = back c.in_ok-third.third (search rules) ∙ c.in_ok-third.ensures ∙ (λ i. back_hi a i *ℤ back_lo b i) in
     let s = back c.in_ok-last.last (search rules) ∙ c.in_ok-last.ensures ∙ (λ i. back_hi a i *ℤ back_hi b i) in
     let same : reached c.with-3.result ≡ product (ends a) (ends b) =
-        four _ _ _ _ _ _ _ _ c.of.ensures c.with.ensures c.with-2.ensures c.with-3.ensures
-        ∙ (λ i. hull_of (p i ∷ q i ∷ r i ∷ s i ∷ []))
+    four _ _ _ _ _ _ _ _ c.of.ensures c.with.ensures c.with-2.ensures c.with-3.ensures
+    ∙ (λ i. hull_of (p i ∷ q i ∷ r i ∷ s i ∷ []))
     in
     subst (IsInterval c.interval.result) same c.interval.ensures

@@ -19,8 +19,8 @@ apart : (g : goal.After-new-2) → (pos 0 <ℤ g.args.other.now.lo) ⊎ (g.args.
 apart c =
     let b = c.args.other.now in
     elim c.else-other-le0.branch [
-      else-other-le0-via-then-other-le0+else-other-ge0 w ↦ inr (subst (λ z. z <ℤ pos 0) (back_hi b) (below_zero _ w.if-other-ge0.false))
-    | else-other-le0-via-else-other-le0 w ↦ inl (subst (λ z. pos 0 <ℤ z) (back_lo b) (above_zero _ w.if-other-le0.false))
+      | else-other-le0-via-then-other-le0+else-other-ge0 w ↦ inr (subst (λ z. z <ℤ pos 0) (back_hi b) (below_zero _ w.if-other-ge0.false))
+      | else-other-le0-via-else-other-le0 w ↦ inl (subst (λ z. pos 0 <ℤ z) (back_lo b) (above_zero _ w.if-other-le0.false))
     ]
 
 pub returns : goal.returns
@@ -40,6 +40,6 @@ returns c =
     let greatest = greatest_passed c.max-size.result fits here ∙ ap (λ z. z -ℤ pos 1) size in
     subst (IsInterval c.new-2.result) (sym (modulus_without_zero (ends a) (ends b) (apart c)))
     (answered c.new-2.result _ _ (bounds_order a.lo a.hi m some a.ordered)
-        (back c.max.result (record { sfits = c.max.type_inv }) ∙ c.max.ensures.value ∙ (λ i. int_max (lo i) (least i)))
-        (back c.min.result (record { sfits = c.min.type_inv }) ∙ c.min.ensures.value ∙ (λ i. int_min (hi i) (greatest i)))
-        c.new-2.ensures)
+    (back c.max.result (record { sfits = c.max.type_inv }) ∙ c.max.ensures.value ∙ (λ i. int_max (lo i) (least i)))
+    (back c.min.result (record { sfits = c.min.type_inv }) ∙ c.min.ensures.value ∙ (λ i. int_min (hi i) (greatest i)))
+    c.new-2.ensures)

@@ -1,5 +1,5 @@
 use Rattle.std.proofs.Common.{arith}
-use Rattle.std.proofs.lemmas.Int.{ints, clamps}
+use Rattle.std.proofs.lemmas.Int.{ints}
 use Rattle.intervals.proofs.AnswerLemmas.{answered, bounded}
 use Rattle.intervals.proofs.interval.Interval.sub.Goals as goal
 
