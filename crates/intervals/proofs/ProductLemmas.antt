@@ -4,12 +4,9 @@ use Rattle.std.proofs.Math.Nat.{mul-le-mul_left}
 use Rattle.std.proofs.lemmas.Int.{ints, clamps}
 use Rattle.std.specs.Int.{w128}
 use Rattle.intervals.specs.Ends.{Ends, Holds, IsWide}
+use Rattle.intervals.specs.Products.{IsFar}
 use Rattle.intervals.specs.Rules.{hull_of}
 use Rattle.intervals.specs.Hulls.{extended}
-
--- the number is in no interval
-abbrev pub IsFar : ℤ → Type 0
-IsFar z = (z <ℤ negsuc (2 ^ 63 - 1)) ⊎ (pos (2 ^ 64 - 1) <ℤ z)
 
 far_multiple : (e : ℤ) (n : ℕ) → (of_z w128 e ≡ 0 → ⊥) → 2 ^ 127 ≤ n → IsFar (pos n *ℤ e)
 far_multiple (pos zero) n p h = absurd (p refl)

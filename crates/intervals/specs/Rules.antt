@@ -10,9 +10,11 @@ abbrev pub hull_of : List ℤ → Ends
 hull_of [] = record { lo = pos 0; hi = pos 0 }
 hull_of (x ∷ xs) = record { lo = fold int_min x xs; hi = fold int_max x xs }
 
+-- the sums of both lower ends and of both upper ends
 abbrev pub sum : Ends → Ends → Ends
 sum a b = record { lo = a.lo +ℤ b.lo; hi = a.hi +ℤ b.hi }
 
+-- the lower end less the upper one, and the other way round
 abbrev pub difference : Ends → Ends → Ends
 difference a b = record { lo = a.lo -ℤ b.hi; hi = a.hi -ℤ b.lo }
 
@@ -49,7 +51,7 @@ ratio a b = hull_of (end_quotients a (ends_below_zero b) ++ (end_quotients a (en
 abbrev pub greatest_size : Ends → ℤ
 greatest_size e = int_max (pos (unsigned_abs e.lo)) (pos (unsigned_abs e.hi))
 
--- from 0 to the dividend; where b doesn't hold 0, no further from 0 than one less than the greatest size of b
+-- a, reaching to 0; where b doesn't hold 0, no further from 0 than one less than the greatest size of b
 abbrev pub modulus : Ends → Ends → Ends
 modulus a b =
     if holds_zero b then record { lo = int_min a.lo (pos 0); hi = int_max a.hi (pos 0) }
@@ -58,15 +60,19 @@ modulus a b =
       hi = int_min (int_max a.hi (pos 0)) (greatest_size b -ℤ pos 1);
     }
 
+-- from the lesser lower end to the greater upper end
 abbrev pub hull : Ends → Ends → Ends
 hull a b = record { lo = int_min a.lo b.lo; hi = int_max a.hi b.hi }
 
+-- from the lesser lower end to the lesser upper end
 abbrev pub smaller : Ends → Ends → Ends
 smaller a b = record { lo = int_min a.lo b.lo; hi = int_min a.hi b.hi }
 
+-- from the greater lower end to the greater upper end
 abbrev pub greater : Ends → Ends → Ends
 greater a b = record { lo = int_max a.lo b.lo; hi = int_max a.hi b.hi }
 
+-- the mirror image
 abbrev pub negation : Ends → Ends
 negation a = record { lo = neg_ℤ a.hi; hi = neg_ℤ a.lo }
 

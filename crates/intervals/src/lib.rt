@@ -6,6 +6,8 @@ mod interval;
 mod laws;
 mod operations;
 mod sizes;
+#[cfg(test)]
+mod tests;
 
 pub use interval::Interval;
 pub use laws::{division_truncates, rules_are_sound};

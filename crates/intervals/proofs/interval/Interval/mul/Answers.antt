@@ -1,10 +1,11 @@
 use Rattle.std.proofs.Common.{◌≡◌, ◌*ℤ◌, ◌≤ℤ◌, rules, sym, subst, ◌∙◌, [], ◌∷◌}
 use Rattle.intervals.specs.Ends.{Ends}
 use Rattle.intervals.specs.Answers.{IsInterval, ends}
+use Rattle.intervals.specs.Products.{IsFar}
 use Rattle.intervals.specs.Rules.{hull_of, product}
 use Rattle.intervals.specs.Hulls.{reached}
 use Rattle.intervals.proofs.AnswerLemmas.{back, back_lo, back_hi, none_wide}
-use Rattle.intervals.proofs.ProductLemmas.{IsFar, wide_far, corners, corners_order, four}
+use Rattle.intervals.proofs.ProductLemmas.{wide_far, corners, corners_order, four}
 use Rattle.intervals.proofs.interval.Interval.mul.Goals as goal
 
 pub returns-in_err-corner : goal.returns-in_err-corner
