@@ -1,0 +1,8 @@
+pub mod AnswerLemmas
+pub mod ProductLemmas
+pub mod DigitLemmas
+pub mod RemainderLemmas
+pub mod HullLemmas
+pub mod DivisionLemmas
+pub mod Soundness
+pub mod QuotientSoundness

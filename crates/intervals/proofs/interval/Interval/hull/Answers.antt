@@ -1,0 +1,10 @@
+use Rattle.std.proofs.Common.{arith}
+use Rattle.std.proofs.lemmas.Int.{ints, clamps}
+use Rattle.intervals.proofs.AnswerLemmas.{answered, bounded}
+use Rattle.intervals.proofs.interval.Interval.hull.Goals as goal
+
+pub returns : goal.returns
+returns c =
+    let a = bounded c.args.self.now in
+    let b = bounded c.args.other.now in
+    answered c.new.result _ _ (omega (arith, ints, clamps)) (omega (arith, ints, clamps)) (omega (arith, ints, clamps)) c.new.ensures

@@ -1,0 +1,5 @@
+use Rattle.intervals.proofs.QuotientSoundness.{divides, divides_by_zero}
+use Rattle.intervals.proofs.laws.division_truncates.Goals as goal
+
+pub returns : goal.returns
+returns c = record { divided = divides; by_zero = divides_by_zero }
