@@ -1,9 +1,8 @@
 -- Quotients of ends, and their hull.
-use Rattle.std.proofs.Common.{◌≡◌, ℕ, zero, suc, ◌^◌, ◌<◌, ◌≤◌, ◌/◌, ℤ, pos, negsuc, neg_ℤ, ◌≤ℤ◌, ◌<ℤ◌, inl, refl, sym, ap, subst, ◌∙◌, arith, [], ◌∷◌, ◌++◌, FitsSigned, to_z, of_z, unsigned_abs, int_div, true}
+use Rattle.std.proofs.Common.{◌≡◌, ℕ, zero, suc, ◌^◌, ◌<◌, ◌≤◌, ◌/◌, ℤ, pos, negsuc, neg_ℤ, ◌≤ℤ◌, ◌<ℤ◌, inl, refl, sym, ap, subst, ◌∙◌, arith, [], ◌∷◌, ◌++◌, FitsSigned, to_z, of_z, unsigned_abs, int_div}
 use Rattle.std.proofs.Math.Nat.{div-le_self, div-zero}
 use Rattle.std.proofs.lemmas.Int.{ints, clamps, by_lt_z, fits_signed_from_abs, quot_is}
 use Rattle.std.specs.Int.{w128, int_min, int_max}
-use Rattle.std.specs.Int.RustNames.{int_lt, int_le}
 use Rattle.intervals.specs.declared.interval.Interval.{Interval}
 use Rattle.intervals.specs.Ends.{Ends}
 use Rattle.intervals.specs.Hulls.{extended}
@@ -11,6 +10,7 @@ use Rattle.intervals.specs.Rules.{end_quotients, ends_above_zero, ends_below_zer
 use Rattle.intervals.specs.Numbers.{quotient}
 use Rattle.intervals.proofs.AnswerLemmas.{back, back_hi, small_lo, small_hi}
 use Rattle.intervals.proofs.HullLemmas.{Among, Among_right, extended_append, from_member, hull_holds}
+use Rattle.intervals.proofs.Comparisons.{is_lt, is_le}
 
 abs_neg : (n : ℕ) → unsigned_abs (neg_ℤ (pos n)) ≡ n
 abs_neg zero = refl
@@ -49,20 +49,14 @@ can_divide_hi i d f n =
     let q = sym (back d f) in
     (bits_some d f n, subst (FitsSigned w128) (λ k. int_div (p k) (q k)) (quotient_fits i.hi d (small_hi i).1))
 
-is_lt : (a b : ℤ) → a <ℤ b → true ≡ int_lt a b
-is_lt a b h = omega (arith, ints)
-
-is_le : (a b : ℤ) → a ≤ℤ b → true ≡ int_le a b
-is_le a b h = omega (arith, ints)
-
 pub part_above : (e : Ends) → pos 0 <ℤ e.hi → ends_above_zero e ≡ int_max e.lo (pos 1) ∷ e.hi ∷ []
-part_above e h = let p = sym (is_lt (pos 0) e.hi h) in rw p refl
+part_above e h = let p = is_lt (pos 0) e.hi h in rw p refl
 
 pub part_below : (e : Ends) → e.lo <ℤ pos 0 → ends_below_zero e ≡ e.lo ∷ int_min e.hi (negsuc 0) ∷ []
-part_below e h = let p = sym (is_lt e.lo (pos 0) h) in rw p refl
+part_below e h = let p = is_lt e.lo (pos 0) h in rw p refl
 
 pub zero_held : (e : Ends) → e.lo ≤ℤ pos 0 → pos 0 ≤ℤ e.hi → zero_of e ≡ pos 0 ∷ []
-zero_held e h k = let p = sym (is_le e.lo (pos 0) h) in let q = sym (is_le (pos 0) e.hi k) in rw (p, q) refl
+zero_held e h k = let p = is_le e.lo (pos 0) h in let q = is_le (pos 0) e.hi k in rw (p, q) refl
 
 -- by 0 a quotient is 0
 pub quotient_by_zero : (a : ℤ) → quotient a (pos 0) ≡ pos 0

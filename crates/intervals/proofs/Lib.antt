@@ -1,3 +1,4 @@
+pub mod Comparisons
 pub mod AnswerLemmas
 pub mod ProductLemmas
 pub mod DigitLemmas

@@ -1,15 +1,15 @@
 -- The rules of the operations by the ends, products and multiples are sound.
-use Rattle.std.proofs.Common.{◌≡◌, ℕ, suc, ◌*◌, ◌≤◌, ℤ, pos, negsuc, neg_ℤ, ◌+ℤ◌, ◌-ℤ◌, ◌*ℤ◌, ◌≤ℤ◌, ◌<ℤ◌, refl, sym, subst, arith, [], ◌∷◌, length, true, false}
+use Rattle.std.proofs.Common.{◌≡◌, ℕ, suc, ◌*◌, ◌≤◌, ℤ, pos, negsuc, neg_ℤ, ◌+ℤ◌, ◌-ℤ◌, ◌*ℤ◌, ◌≤ℤ◌, ◌<ℤ◌, refl, sym, subst, arith, [], ◌∷◌, length}
 use Rattle.std.proofs.Math.Nat.{mul-le-mul_left}
 use Rattle.std.proofs.Math.IntN.{*ℤ_comm}
 use Rattle.std.proofs.lemmas.Int.{ints, clamps, by_lt_z}
 use Rattle.std.specs.Int.{int_min, int_max}
-use Rattle.std.specs.Int.RustNames.{int_le}
 use Rattle.intervals.specs.Ends.{Ends, Holds}
 use Rattle.intervals.specs.Numbers.{size, total}
 use Rattle.intervals.specs.Rules.{sum, difference, product, smaller, greater, negation, absolute, multiple}
 use Rattle.intervals.specs.Sound.{IsSound, AreSound, HoldsBoth, TotalIsSound}
 use Rattle.intervals.proofs.ProductLemmas.{corners, multiple_order}
+use Rattle.intervals.proofs.Comparisons.{is_le, is_not_le}
 
 pub sum_sound : AreSound sum ◌+ℤ◌
 sum_sound a b x y h k = record { above = omega (arith, ints); below = omega (arith, ints) }
@@ -33,20 +33,14 @@ hull_sound a b = record {
 }
 
 -- ---- the absolute value
-is_le : (a b : ℤ) → a ≤ℤ b → true ≡ int_le a b
-is_le a b h = omega (arith, ints)
-
-is_not_le : (a b : ℤ) → b <ℤ a → false ≡ int_le a b
-is_not_le a b h = omega (arith, ints)
-
 absolute_above : (a : Ends) → pos 0 ≤ℤ a.lo → absolute a ≡ a
-absolute_above a h = let p = sym (is_le (pos 0) a.lo h) in rw p refl
+absolute_above a h = let p = is_le (pos 0) a.lo h in rw p refl
 
 absolute_below : (a : Ends) → a.lo <ℤ pos 0 → a.hi ≤ℤ pos 0 → absolute a ≡ negation a
-absolute_below a h k = let p = sym (is_not_le (pos 0) a.lo h) in let q = sym (is_le a.hi (pos 0) k) in rw (p, q) refl
+absolute_below a h k = let p = is_not_le (pos 0) a.lo h in let q = is_le a.hi (pos 0) k in rw (p, q) refl
 
 absolute_across : (a : Ends) → a.lo <ℤ pos 0 → pos 0 <ℤ a.hi → absolute a ≡ record { lo = pos 0; hi = int_max (neg_ℤ a.lo) a.hi }
-absolute_across a h k = let p = sym (is_not_le (pos 0) a.lo h) in let q = sym (is_not_le a.hi (pos 0) k) in rw (p, q) refl
+absolute_across a h k = let p = is_not_le (pos 0) a.lo h in let q = is_not_le a.hi (pos 0) k in rw (p, q) refl
 
 size_above : (x : ℤ) → pos 0 ≤ℤ x → size x ≡ x
 size_above x h = omega (arith, ints)

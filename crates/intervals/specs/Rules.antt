@@ -5,7 +5,7 @@ use Rattle.std.specs.Int.{int_min, int_max}
 use Rattle.intervals.specs.Ends.{Ends}
 use Rattle.intervals.specs.Numbers.{quotient}
 
--- from the least to the greatest of some numbers; of no numbers, which no rule asks for, 0
+-- from the least to the greatest of some numbers; of no numbers, which ends in order never ask for, 0
 abbrev pub hull_of : List ℤ → Ends
 hull_of [] = record { lo = pos 0; hi = pos 0 }
 hull_of (x ∷ xs) = record { lo = fold int_min x xs; hi = fold int_max x xs }

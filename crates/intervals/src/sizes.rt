@@ -1,10 +1,9 @@
 //! How many binary digits the numbers of an interval take.
 
-ghost use Rattle.std.specs.Prelude.{◌≤◌, ◌≡◌};
-ghost use Rattle.std.specs.Prelude.{ℕ};
+ghost use Rattle.std.specs.Prelude.{ℕ, ◌≡◌, ◌≤◌};
+ghost use Rattle.std.specs.Int.Signed.{mag};
 ghost use Rattle.intervals.specs.Answers.{ends};
 ghost use Rattle.intervals.specs.Numbers.{DistanceHasDigits, HasDigits, HasSignedDigits, IsLeast};
-ghost use lib.Signed.{mag};
 
 use crate::interval::Interval;
 

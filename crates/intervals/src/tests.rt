@@ -138,6 +138,11 @@ fn interval(ends: Ends) -> Option<Interval> {
     Interval::new(ends.0, ends.1)
 }
 
+/// Each pair of ends from -4 to 3 once, for the numbers below 64.
+fn small_interval(number: u8) -> Option<Interval> {
+    interval((i128::from(number / 8) - 4, i128::from(number % 8) - 4))
+}
+
 fn ends_of(interval: Option<Interval>) -> Option<Ends> {
     match interval {
         Some(found) => Some((found.lo, found.hi)),
@@ -219,11 +224,9 @@ fn one_interval_has_the_worked_ends_and_digits(rt: HostRuntime) {
 /// The ends are the least and the greatest value; those of a remainder may lie further out.
 #[test]
 fn small_intervals_have_the_scanned_ends(rt: HostRuntime) {
-    for first in 0..64_i128 {
-        for second in 0..64_i128 {
-            let left = interval((first / 8 - 4, first % 8 - 4));
-            let right = interval((second / 8 - 4, second % 8 - 4));
-            if let (Some(a), Some(b)) = (left, right) {
+    for first in 0..64_u8 {
+        for second in 0..64_u8 {
+            if let (Some(a), Some(b)) = (small_interval(first), small_interval(second)) {
                 for operation in &OPERATIONS {
                     let (least, greatest) = scanned(*operation, &a, &b);
                     let answer = apply(*operation, &a, &b);
