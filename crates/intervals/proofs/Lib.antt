@@ -6,4 +6,3 @@ pub mod RemainderLemmas
 pub mod HullLemmas
 pub mod DivisionLemmas
 pub mod Soundness
-pub mod QuotientSoundness

@@ -1,4 +1,4 @@
-use Rattle.intervals.proofs.QuotientSoundness.{divides, divides_by_zero}
+use Rattle.intervals.proofs.Soundness.{divides, divides_by_zero}
 use Rattle.intervals.proofs.laws.division_truncates.Goals as goal
 
 pub returns : goal.returns

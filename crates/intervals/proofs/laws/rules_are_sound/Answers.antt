@@ -1,5 +1,4 @@
-use Rattle.intervals.proofs.Soundness.{sum_sound, difference_sound, product_sound, smaller_sound, greater_sound, hull_sound, negation_sound, absolute_sound, multiple_sound, total_sound}
-use Rattle.intervals.proofs.QuotientSoundness.{ratio_sound, modulus_sound}
+use Rattle.intervals.proofs.Soundness.{sum_sound, difference_sound, product_sound, smaller_sound, greater_sound, hull_sound, negation_sound, absolute_sound, multiple_sound, total_sound, ratio_sound, modulus_sound}
 use Rattle.intervals.proofs.laws.rules_are_sound.Goals as goal
 
 pub returns : goal.returns
