@@ -24,68 +24,85 @@ fn nested(
     Ok(text)
 }
 
+const UNBUILT: &[u8] = b"refused Unbuilt\n";
+
+const FALSIFIED: &[u8] =
+    b"obligation 1 at 1:36: falsified 1\n0: a=false\nproved 0 falsified 1 undecided 0\n";
+
+const HEAD: &[u8] = b"Inputs: bool a; Proof Obligations: ";
+
+const DEEPER: &[u8] = b"Inputs: bool a; Proof Obligations: ~";
+
+/// The parts of a nested text, its status and what is written.
+type Nested = (
+    &'static [u8],
+    &'static [u8],
+    usize,
+    &'static [u8],
+    &'static [u8],
+    &'static [u8],
+    u8,
+    &'static [u8],
+);
+
+const NESTED: [Nested; 11] = [
+    // Levels of `~`, of `(`, and of both: 200 and 201.
+    (HEAD, b"~", 200, b"a", b"", b";", 1, FALSIFIED),
+    (HEAD, b"~", 201, b"a", b"", b";", 3, UNBUILT),
+    (
+        HEAD,
+        b"(",
+        200,
+        b"a",
+        b")",
+        b";",
+        1,
+        b"obligation 1 at 1:236: falsified 1\n0: a=false\nproved 0 falsified 1 undecided 0\n",
+    ),
+    (HEAD, b"(", 201, b"a", b")", b";", 3, UNBUILT),
+    (HEAD, b"~(", 100, b"a", b")", b";", 1, FALSIFIED),
+    (DEEPER, b"~(", 100, b"a", b")", b";", 3, UNBUILT),
+    // The levels of one operand are not those of the next.
+    (
+        HEAD,
+        b"~",
+        200,
+        b"a & ~a",
+        b"",
+        b";",
+        1,
+        b"obligation 1 at 1:238: falsified 1\n0: a=false\nproved 0 falsified 1 undecided 0\n",
+    ),
+    // 20,000 tokens, and one more.
+    (
+        HEAD,
+        b"a & ",
+        9_995,
+        b"a",
+        b"",
+        b";",
+        1,
+        b"obligation 1 at 1:38: falsified 1\n0: a=false\nproved 0 falsified 1 undecided 0\n",
+    ),
+    (HEAD, b"a & ", 9_995, b"~a", b"", b";", 3, UNBUILT),
+    // 2^24 bytes of blanks, and one more.
+    (
+        b"",
+        b" ",
+        16_777_216,
+        b"",
+        b"",
+        b"",
+        0,
+        b"proved 0 falsified 0 undecided 0\n",
+    ),
+    (b"", b" ", 16_777_217, b"", b"", b"", 3, b"refused Long\n"),
+];
+
 #[test]
 fn levels_tokens_and_bytes_are_limited(rt: HostRuntime) -> Result<(), Fail> {
     let alloc = rt.alloc();
-    let unbuilt = b"refused Unbuilt\n";
-    let falsified =
-        b"obligation 1 at 1:36: falsified 1\n0: a=false\nproved 0 falsified 1 undecided 0\n";
-    let head = b"Inputs: bool a; Proof Obligations: ";
-    let deeper = b"Inputs: bool a; Proof Obligations: ~";
-    let table: [(&[u8], &[u8], usize, &[u8], &[u8], &[u8], u8, &[u8]); 11] = [
-        // Levels of `~`, of `(`, and of both: 200 and 201.
-        (head, b"~", 200, b"a", b"", b";", 1, falsified),
-        (head, b"~", 201, b"a", b"", b";", 3, unbuilt),
-        (
-            head,
-            b"(",
-            200,
-            b"a",
-            b")",
-            b";",
-            1,
-            b"obligation 1 at 1:236: falsified 1\n0: a=false\nproved 0 falsified 1 undecided 0\n",
-        ),
-        (head, b"(", 201, b"a", b")", b";", 3, unbuilt),
-        (head, b"~(", 100, b"a", b")", b";", 1, falsified),
-        (deeper, b"~(", 100, b"a", b")", b";", 3, unbuilt),
-        // The levels of one operand are not those of the next.
-        (
-            head,
-            b"~",
-            200,
-            b"a & ~a",
-            b"",
-            b";",
-            1,
-            b"obligation 1 at 1:238: falsified 1\n0: a=false\nproved 0 falsified 1 undecided 0\n",
-        ),
-        // 20,000 tokens, and two more.
-        (
-            head,
-            b"a & ",
-            9_995,
-            b"a",
-            b"",
-            b";",
-            1,
-            b"obligation 1 at 1:38: falsified 1\n0: a=false\nproved 0 falsified 1 undecided 0\n",
-        ),
-        (head, b"a & ", 9_996, b"a", b"", b";", 3, unbuilt),
-        // 2^24 bytes of blanks, and one more.
-        (
-            b"",
-            b" ",
-            16_777_216,
-            b"",
-            b"",
-            b"",
-            0,
-            b"proved 0 falsified 0 undecided 0\n",
-        ),
-        (b"", b" ", 16_777_217, b"", b"", b"", 3, b"refused Long\n"),
-    ];
-    for (head, opening, times, middle, closing, tail, status, output) in table {
+    for (head, opening, times, middle, closing, tail, status, output) in NESTED {
         let text = nested(alloc, head, opening, times, middle, closing, tail)?;
         let (answered, out) = prove(&rt, alloc, &text)?;
         assert_eq!(rt; out.bytes(), output);
