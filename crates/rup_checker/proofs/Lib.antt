@@ -1,0 +1,13 @@
+pub mod Pieces
+pub mod Standings
+pub mod Places
+pub mod PropagationLemmas
+pub mod TrailLemmas
+pub mod OccurrenceLemmas
+pub mod Sets
+pub mod Following
+pub mod ContainmentLemmas
+pub mod LogLemmas
+pub mod Soundness
+pub mod ReplayLemmas
+pub mod OneAnswer

@@ -1,0 +1,9 @@
+use Rattle.std.proofs.Common.{◌≡◌}
+use Rattle.rup_checker.specs.Containment.{AreAnchored}
+use Rattle.rup_checker.proofs.replay.anchors.Given as goal
+
+abbrev pub invariant-loop-number : goal.invariant-loop-number
+invariant-loop-number l = record {
+  variables : l.anchors.occurrences.variables ≡ l.formula.variables;
+  anchored : AreAnchored l.formula.clauses l.number l.anchors;
+}
