@@ -1,0 +1,11 @@
+pub mod Members
+pub mod TrailParts
+pub mod Reasons
+pub mod Complete
+pub mod Learning
+pub mod Bound
+pub mod Steps
+pub mod Worth
+pub mod Status
+pub mod Models
+pub mod States

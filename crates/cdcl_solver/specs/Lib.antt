@@ -1,0 +1,4 @@
+pub mod Values
+pub mod Trails
+pub mod Searches
+pub mod Answers
