@@ -1,0 +1,10 @@
+pub mod BuildingLemmas
+pub mod DraftLemmas
+pub mod EquationLemmas
+pub mod ListLemmas
+pub mod NextLemmas
+pub mod NodeLemmas
+pub mod RowLemmas
+pub mod SignalLemmas
+pub mod TableLemmas
+pub mod ValueLemmas

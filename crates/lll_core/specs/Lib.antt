@@ -1,0 +1,4 @@
+pub mod Building
+pub mod Drafts
+pub mod Signals
+pub mod Tables
