@@ -1,0 +1,12 @@
+pub mod SignalLines
+pub mod FieldLemmas
+pub mod Steps
+pub mod Numbers
+pub mod Signals
+pub mod Reached
+pub mod Again
+pub mod OneReading
+pub mod Consumed
+pub mod Total
+pub mod Local
+pub mod GoingOn

@@ -1,0 +1,5 @@
+use Rattle.lll_text.proofs.OneReading.{spelling-injective}
+use Rattle.lll_text.proofs.law.one_spelling.Goals as goal
+
+pub returns : goal.returns
+returns c = spelling-injective
