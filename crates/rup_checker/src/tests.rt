@@ -228,3 +228,12 @@ fn tells_busy_logs(rt: HostRuntime) -> Result<(), Fail> {
     }
     Ok(())
 }
+
+/// Compiles and is proved where values of the type may go from thread to thread and be shared by threads.
+fn crosses_threads<T: Send + Sync>() {}
+
+#[test]
+fn logs_cross_threads() {
+    crosses_threads::<Log>();
+    crosses_threads::<Formula>();
+}
