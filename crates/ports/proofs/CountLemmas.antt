@@ -1,13 +1,13 @@
 -- The counts of names, after a change to their list.
-use Rattle.std.proofs.Common.{◌≡◌, ◌≢◌, ℕ, ◌≤◌, List, [], ◌∷◌, ◌++◌, get_or, set, Option, Some, None, Ok, Bool, true, false, Decides, IsSome, ◌⊎◌, inl, inr, ⊎_elim, sym, ap, subst, ◌∙◌, refl, arith}
+use Rattle.std.proofs.Common.{◌≡◌, ◌≢◌, ℕ, ◌≤◌, List, [], ◌∷◌, ◌++◌, get_or, set, Option, Some, None, Ok, Bool, true, false, Decides, IsSome, ◌⊎◌, inl, inr, ⊎_elim, sym, ap, subst, ◌∙◌, refl, arith, length-set}
 use Rattle.std.proofs.lemmas.Slice.Eq.{bytes_eq-Decides}
 use Rattle.std.specs.Option.{option_map_or, is_some}
 use Rattle.std.specs.Str.{bytes_eq}
 use Rattle.ports.specs.Causes.{SameCounts, SameOtherCounts}
 use Rattle.ports.specs.Named.{first_named, IsFirst, IsPlaceOf}
-use Rattle.ports.specs.DeskState.{NamedCounts, read_count, write_count, IsCounted}
+use Rattle.ports.specs.DeskState.{NamedCounts, read_count, write_count, given_count, IsCounted}
 use Rattle.ports.specs.DeskSteps.{Enters, Raises}
-use Rattle.ports.specs.Plans.{next_count}
+use Rattle.ports.specs.Plans.{count_plus}
 use Rattle.ports.proofs.NamedLemmas.{IsSome-IsFirst, IsFirst-key, first_named-IsFirst, first_named-set_same, first_named-set_other, first_named-push_same, first_named-push_other}
 
 -- two names are one, or they differ
@@ -26,23 +26,15 @@ abbrev count : (NamedCounts → ℕ) → List NamedCounts → List ℕ → ℕ
 count p counts name = option_map_or p (first_named key counts name) 0
 
 -- what the search for a name says of its counts
-pub counted_from_place : (counts : List NamedCounts) (name : List ℕ) (place : Option ℕ) → IsPlaceOf key counts name place → is_some place ≡ true → IsCounted counts name
-counted_from_place counts name None h there = absurd (false_true there) where
-  false_true : false ≡ true → ⊥
-  false_true q = cc
-counted_from_place counts name (Some i) h there = IsSome-IsFirst key counts name i h
-
-pub new_from_place : (counts : List NamedCounts) (name : List ℕ) (place : Option ℕ) → IsPlaceOf key counts name place → is_some place ≡ false → first_named key counts name ≡ None
-new_from_place counts name None h missing = h
-new_from_place counts name (Some i) h missing = absurd (true_false missing) where
-  true_false : true ≡ false → ⊥
-  true_false q = cc
+pub counted_at : (counts : List NamedCounts) (name : List ℕ) (i : ℕ) → IsFirst key counts name i → IsCounted counts name
+counted_at counts name i h = IsSome-IsFirst key counts name i h
 
 -- a name that has counts keeps them
-pub Enters_there : (counts : List NamedCounts) (name : List ℕ) → IsCounted counts name → Enters counts counts name (Ok tt)
-Enters_there counts name there = record {
+pub Enters_there : {T : Type 0} (value : T) (counts : List NamedCounts) (name : List ℕ) → IsCounted counts name → Enters counts counts name (Ok value)
+Enters_there value counts name there = record {
   reads = λ _. refl;
   writes = λ _. refl;
+  given = λ _. refl;
   counted = there;
   kept = λ _ h. h;
   room = λ _. refl;
@@ -64,11 +56,12 @@ module _ (counts : List NamedCounts) (name : List ℕ) (w : NamedCounts) (new : 
       (λ differs. subst IsSome (sym (first_named-push_other key counts other w (λ q. differs (sym q ∙ same)))) there)
       (same_or_other other name)
 
-  -- a name that had no counts has two of 0
-  pub Enters_new : w.reads ≡ 0 → w.writes ≡ 0 → Enters counts (counts ++ w ∷ []) name (Ok tt)
-  Enters_new reads writes = record {
+  -- a name that had no counts has three of 0
+  pub Enters_new : {T : Type 0} (value : T) → w.reads ≡ 0 → w.writes ≡ 0 → w.given ≡ 0 → Enters counts (counts ++ w ∷ []) name (Ok value)
+  Enters_new value reads writes given = record {
     reads = count-push (λ c. c.reads) reads;
     writes = count-push (λ c. c.writes) writes;
+    given = count-push (λ c. c.given) given;
     counted = counted-push;
     kept = kept-push;
     room = λ _. refl;
@@ -99,20 +92,22 @@ module _ (counts : List NamedCounts) (name : List ℕ) (place : ℕ) (old w : Na
       (λ differs. subst IsSome (sym (first_named-set_other key counts name other place w here named_so differs)) there)
       (same_or_other other name)
 
-  pub Raises_reads : w.reads ≡ next_count old.reads → old.reads ≤ w.reads → w.writes ≡ old.writes → Raises read_count write_count counts (set counts place w) name
-  Raises_reads reads later writes = record {
-    risen = count-set (λ c. c.reads) ∙ reads ∙ ap next_count (sym (count-before (λ c. c.reads)));
-    later = omega (arith, later, count-set (λ c. c.reads), count-before (λ c. c.reads));
-    others = count-set_others (λ c. c.reads);
-    same = count-set_all (λ c. c.writes) writes;
+  raises : (p q r : NamedCounts → ℕ) (more : ℕ) → p w ≡ count_plus more (p old) → p old ≤ p w → q w ≡ q old → r w ≡ r old → Raises (count p) (count q) (count r) more counts (set counts place w) name
+  raises p q r more risen later second third = record {
+    risen = count-set p ∙ risen ∙ ap (count_plus more) (sym (count-before p));
+    later = omega (arith, later, count-set p, count-before p);
+    others = count-set_others p;
+    same_second = count-set_all q second;
+    same_third = count-set_all r third;
+    as_many = length-set counts place w;
     kept = kept-set;
   }
 
-  pub Raises_writes : w.writes ≡ next_count old.writes → old.writes ≤ w.writes → w.reads ≡ old.reads → Raises write_count read_count counts (set counts place w) name
-  Raises_writes writes later reads = record {
-    risen = count-set (λ c. c.writes) ∙ writes ∙ ap next_count (sym (count-before (λ c. c.writes)));
-    later = omega (arith, later, count-set (λ c. c.writes), count-before (λ c. c.writes));
-    others = count-set_others (λ c. c.writes);
-    same = count-set_all (λ c. c.reads) reads;
-    kept = kept-set;
-  }
+  pub Raises_reads : w.reads ≡ count_plus 1 old.reads → old.reads ≤ w.reads → w.writes ≡ old.writes → w.given ≡ old.given → Raises read_count write_count given_count 1 counts (set counts place w) name
+  Raises_reads = raises (λ c. c.reads) (λ c. c.writes) (λ c. c.given) 1
+
+  pub Raises_writes : w.writes ≡ count_plus 1 old.writes → old.writes ≤ w.writes → w.reads ≡ old.reads → w.given ≡ old.given → Raises write_count read_count given_count 1 counts (set counts place w) name
+  Raises_writes = raises (λ c. c.writes) (λ c. c.reads) (λ c. c.given) 1
+
+  pub Raises_given : (more : ℕ) → w.given ≡ count_plus more old.given → old.given ≤ w.given → w.reads ≡ old.reads → w.writes ≡ old.writes → Raises given_count read_count write_count more counts (set counts place w) name
+  Raises_given = raises (λ c. c.given) (λ c. c.reads) (λ c. c.writes)

@@ -1,7 +1,8 @@
 -- A part of the bytes was appended to a file, and a rest is left.
-use Rattle.std.proofs.Common.{◌≡◌, ℕ, List, [], ◌++◌, length, take, drop, Option, Some, None, Ok, Err, sym, ap, ◌∙◌, refl, inl, inr, append_assoc, take-append-drop}
+use Rattle.std.proofs.Common.{◌≡◌, ℕ, List, [], ◌++◌, length, take, drop, ◌<◌, Option, Some, None, Ok, Err, sym, ap, ◌∙◌, refl, inl, inr, append_assoc, take-append-drop}
 use Rattle.std.proofs.lemmas.List.{append-nil, take_at}
 use Rattle.ports.specs.declared.fault.PortFault.{PortFault}
+use Rattle.ports.proofs.Sending.{front_of}
 use Rattle.ports.specs.Contents.{Files, Tells, SameOtherFiles, content_of, Puts, PutsAll}
 
 -- the first part of the bytes is at the end of the named file, and other files are as they were
@@ -31,14 +32,14 @@ Stored_more first before now name bytes rest n s put = (
   )
 
 -- a fault leaves what was stored
-pub Stored_fault : (first before now : Option Files) (name bytes rest : List ℕ) (fault e : PortFault) → Stored first before name bytes rest → Tells before now (λ b a. SameOtherFiles name b a × Puts rest (Err fault) (b name) (a name)) → Tells first now (λ b a. SameOtherFiles name b a × PutsAll bytes (Err e) (b name) (a name))
-Stored_fault None before now name bytes rest fault e s put = tt
-Stored_fault (Some f) None now name bytes rest fault e s put = absurd s.2
-Stored_fault (Some f) (Some b) None name bytes rest fault e s put = absurd put
-Stored_fault (Some f) (Some b) (Some a) name bytes rest fault e s put =
-    let front : take (length s.0) bytes ≡ s.0 = ap (take (length s.0)) s.1 ∙ take_at s.0 rest (length s.0) refl in (
+pub Stored_fault : (first before now : Option Files) (name bytes rest : List ℕ) (fault e : PortFault) → 0 < length rest → Stored first before name bytes rest → Tells before now (λ b a. SameOtherFiles name b a × Puts rest (Err fault) (b name) (a name)) → Tells first now (λ b a. SameOtherFiles name b a × PutsAll bytes (Err e) (b name) (a name))
+Stored_fault None before now name bytes rest fault e some s put = tt
+Stored_fault (Some f) None now name bytes rest fault e some s put = absurd s.2
+Stored_fault (Some f) (Some b) None name bytes rest fault e some s put = absurd put
+Stored_fault (Some f) (Some b) (Some a) name bytes rest fault e some s put =
+    let front = front_of bytes s.0 rest s.1 some in (
       λ other differs. put.0 other differs ∙ s.2.0 other differs,
-      inr (length s.0, put.1 ∙ s.2.1 ∙ ap (λ t. Some (content_of (f name) ++ t)) (sym front)),
+      inr (length s.0, front.0, put.1 ∙ s.2.1 ∙ ap (λ t. Some (content_of (f name) ++ t)) (sym front.1)),
     )
 
 -- a fault of the first write leaves the file as it was

@@ -1,5 +1,5 @@
 -- The front of a file has been read.
-use Rattle.std.proofs.Common.{◌≡◌, ℕ, ◌+◌, ◌<◌, ◌≤◌, List, [], ◌++◌, length, take, drop, Option, Some, None, Ok, Err, sym, ap, subst, ◌∙◌, refl, arith, length-take, length-append}
+use Rattle.std.proofs.Common.{◌≡◌, ℕ, ◌+◌, ◌<◌, ◌≤◌, min, List, [], ◌++◌, length, take, drop, Option, Some, None, Ok, Err, sym, ap, subst, ◌∙◌, refl, arith, length-take, length-append}
 use Rattle.std.proofs.lemmas.List.{take_all}
 use Rattle.std.proofs.Math.Seq.{take-add}
 use Rattle.std.specs.declared.vec.Vec.{Vec}
@@ -7,8 +7,9 @@ use Rattle.std.specs.declared.alloc.Global.{Global}
 use Rattle.ports.specs.declared.fault.PortFault.{PortFault}
 use Rattle.ports.specs.declared.fault.PortFault.TheVariants as port
 use Rattle.ports.specs.declared.fault.ReadFault.TheVariants as reading
+use Rattle.ports.specs.Causes.{RoseBy, last_count}
 use Rattle.ports.specs.Faults.{read_fault_of}
-use Rattle.ports.specs.Contents.{Files, Tells, SameFiles, content_of, Reads, ReadsText}
+use Rattle.ports.specs.Contents.{Files, Tells, SameFiles, content_of, Reads, ReadsText, GotText}
 
 -- the text is the front of the file
 pub record FrontOf (file : Option (List ℕ)) (text : List ℕ) : Type 0 where
@@ -88,3 +89,31 @@ GotFront_memory first now name text limit got = Tells_weaker first now (λ f x h
 pub GotFront_failed : (first now : Option Files) (name text : List ℕ) (limit : ℕ) (fault : PortFault) → GotFront first now name text → Tells first now (λ x y. SameFiles x y × ReadsText (x name) limit (Err (read_fault_of fault)))
 GotFront_failed first now name text limit port.Failed got = Tells_weaker first now (λ f x h. (h.0, tt)) got
 GotFront_failed first now name text limit port.Memory got = Tells_weaker first now (λ f x h. (h.0, tt)) got
+
+-- ---- how many bytes were got
+
+-- so many bytes were got since a count was as it was first
+pub record Got (n first now : ℕ) : Type 0 where
+  pub later : first ≤ now
+  pub most : now ≤ first + n
+  pub least : min (first + n) last_count ≤ now
+  pub bounded : 0 < n → now ≤ last_count
+
+pub Got_none : (first : ℕ) → Got 0 first first
+Got_none first = record { later = omega arith; most = omega arith; least = omega arith; bounded = λ none. absurd (omega (arith, none)) }
+
+pub Got_more : (n more first before now : ℕ) → Got n first before → RoseBy more before now → Got (n + more) first now
+Got_more n more first before now got rose = record {
+  later = omega (arith, got.later, rose.0);
+  most = omega (arith, got.most, rose.0, rose.1);
+  least = omega (arith, got.least, rose.0, rose.1);
+  bounded = λ some. omega (arith, rose.1);
+}
+
+-- all that were got, where the last read gave none
+pub Got_end : (n first before now : ℕ) → Got n first before → RoseBy 0 before now → RoseBy n first now
+Got_end n first before now got rose = (omega (arith, got.later, rose.0), omega (arith, got.most, got.least, rose.0, rose.1))
+
+-- or where there were some
+pub Got_long : (n limit first now : ℕ) → n ≡ limit + 1 → Got n first now → RoseBy (limit + 1) first now
+Got_long n limit first now many got = (got.later, omega (arith, many, got.most, got.least, got.bounded (omega (arith, many))))

@@ -1,23 +1,22 @@
--- When a port may answer that it failed.
+-- The counts that a port keeps, and when it may answer that it failed.
 use Rattle.std.specs.Prelude.{◌≡◌, ◌≢◌, ℕ, ◌+◌, ◌-◌, ◌^◌, ◌≤◌, min, List, Result, Err}
-use Rattle.ports.specs.declared.fault.PortFault.{PortFault}
-use Rattle.ports.specs.declared.fault.PortFault.TheVariants.{Failed}
-use Rattle.ports.specs.declared.fault.ReadFault.{ReadFault}
-use Rattle.ports.specs.declared.fault.ReadFault.TheVariants as reading
 
--- a count of faults rose; at the last value of its type it stands still
+-- the greatest value of a count, at which it stands still
+abbrev pub last_count : ℕ
+last_count = 2 ^ 64 - 1
+
+-- a count rose by so many
+abbrev pub RoseBy : ℕ → ℕ → ℕ → Type 0
+RoseBy n before now = (before ≤ now) × (now ≡ min (before + n) last_count)
+
+-- a count of faults rose
 abbrev pub Rose : ℕ → ℕ → Type 0
-Rose before now = min (before + 1) (2 ^ 64 - 1) ≤ now
+Rose before now = (min (before + 1) last_count ≤ now) × (now ≤ last_count)
 
--- a call leaves a count no lower, and fails only where the count rose in this call
-pub record HasCause {T : Type 0} (before now : ℕ) (result : Result T PortFault) : Type 0 where
+-- a call leaves a count of faults no lower, and answers this fault only where the count rose in this call
+pub record HasCause {T E : Type 0} (fault : E) (before now : ℕ) (result : Result T E) : Type 0 where
   pub later : before ≤ now
-  pub failed : result ≡ Err Failed → Rose before now
-
--- reading a whole file leaves its count no lower, and fails only where the count rose meanwhile
-pub record HasReadCause {T : Type 0} (before now : ℕ) (result : Result T ReadFault) : Type 0 where
-  pub later : before ≤ now
-  pub failed : result ≡ Err reading.Failed → Rose before now
+  pub failed : result ≡ Err fault → Rose before now
 
 -- a count for each name of a file
 abbrev pub Counts : Type 0

@@ -1,7 +1,8 @@
 -- What a port holds, where it tells.
-use Rattle.std.specs.Prelude.{◌≡◌, ◌≢◌, ℕ, ◌<◌, ◌≤◌, ◌↔◌, List, [], ◌++◌, length, take, drop, Option, Some, None, Result, Ok, Err, IfSome, IsSomeAnd, ◌⊎◌, unwrap_or}
+use Rattle.std.specs.Prelude.{◌≡◌, ◌≢◌, ℕ, ◌+◌, ◌<◌, ◌≤◌, ◌↔◌, List, [], ◌++◌, length, take, drop, Option, Some, None, Result, Ok, Err, IfSome, IsSomeAnd, ◌⊎◌, unwrap_or}
 use Rattle.std.specs.declared.vec.Vec.{Vec}
 use Rattle.std.specs.declared.alloc.Global.{Global}
+use Rattle.ports.specs.Causes.{RoseBy}
 use Rattle.ports.specs.declared.fault.PortFault.{PortFault}
 use Rattle.ports.specs.declared.fault.ReadFault.{ReadFault}
 use Rattle.ports.specs.declared.fault.ReadFault.TheVariants as fault
@@ -23,10 +24,10 @@ abbrev pub Appends : List ℕ → Result ℕ PortFault → List ℕ → List ℕ
 Appends piece (Ok n) before now = now ≡ before ++ take n piece
 Appends piece (Err fault) before now = now ≡ before
 
--- a prefix is appended: all of the bytes, unless there was a fault
+-- all of the bytes are appended; after a fault a front of them that isn't all
 abbrev pub AppendsAll : {E : Type 0} → List ℕ → Result Unit E → List ℕ → List ℕ → Type 0
 AppendsAll bytes (Ok done) before now = now ≡ before ++ bytes
-AppendsAll bytes (Err fault) before now = (n : ℕ) × (now ≡ before ++ take n bytes)
+AppendsAll bytes (Err fault) before now = (n : ℕ) × (n < length bytes) × (now ≡ before ++ take n bytes)
 
 -- every file is as before
 abbrev pub SameFiles : Files → Files → Type 0
@@ -45,15 +46,20 @@ abbrev pub Reads : Option (List ℕ) → ℕ → List ℕ → ℕ → Type 0
 Reads None at buffer n = ⊥
 Reads (Some bytes) at buffer n = (n ≤ length (drop at bytes)) × (take n buffer ≡ take n (drop at bytes)) × (0 < length buffer → (n ≡ 0) ↔ (length bytes ≤ at))
 
+-- the bytes of a file that a read gave, by the file's count of them; a read that failed gave none
+abbrev pub Gives : Result ℕ PortFault → ℕ → ℕ → Type 0
+Gives (Ok n) before now = RoseBy n before now
+Gives (Err fault) before now = now ≡ before
+
 -- the first n bytes of a piece are appended to a file, which is made where it isn't there; after a fault the file is as before
 abbrev pub Puts : List ℕ → Result ℕ PortFault → Option (List ℕ) → Option (List ℕ) → Type 0
 Puts piece (Ok n) before now = now ≡ Some (content_of before ++ take n piece)
 Puts piece (Err fault) before now = now ≡ before
 
--- all bytes are appended to a file; after a fault it is as before, or a prefix of them was
+-- all bytes are appended to a file; after a fault it is as before, or a front of them was that isn't all
 abbrev pub PutsAll : List ℕ → Result Unit PortFault → Option (List ℕ) → Option (List ℕ) → Type 0
 PutsAll bytes (Ok done) before now = now ≡ Some (content_of before ++ bytes)
-PutsAll bytes (Err fault) before now = (now ≡ before) ⊎ ((n : ℕ) × (now ≡ Some (content_of before ++ take n bytes)))
+PutsAll bytes (Err fault) before now = (now ≡ before) ⊎ ((n : ℕ) × (n < length bytes) × (now ≡ Some (content_of before ++ take n bytes)))
 
 -- the named file is made empty; after a fault it is as before
 abbrev pub Begins : Result Unit PortFault → Option (List ℕ) → Option (List ℕ) → Type 0
@@ -66,3 +72,10 @@ ReadsText file limit (Ok text) = (file ≡ Some text.items) × (length text.item
 ReadsText file limit (Err fault.Long) = IsSomeAnd file (λ bytes. limit < length bytes)
 ReadsText file limit (Err fault.Failed) = Unit {0}
 ReadsText file limit (Err fault.Memory) = Unit {0}
+
+-- the bytes of a file that were got to read it: its own, or one more than the limit where it is longer; else no more than the limit
+abbrev pub GotText : ℕ → Result (Vec ℕ Global) ReadFault → ℕ → ℕ → Type 0
+GotText limit (Ok text) before now = RoseBy (length text.items) before now
+GotText limit (Err fault.Long) before now = RoseBy (limit + 1) before now
+GotText limit (Err fault.Failed) before now = (before ≤ now) × (now ≤ before + limit)
+GotText limit (Err fault.Memory) before now = (before ≤ now) × (now ≤ before + limit)

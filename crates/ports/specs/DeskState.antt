@@ -12,19 +12,21 @@ pub record NamedBytes : Type 0 where
   pub name : List ℕ
   pub bytes : List ℕ
 
--- how many reads and writes of a file have failed
+-- how many reads and writes of a file have failed, and how many of its bytes were given
 pub record NamedCounts : Type 0 where
   pub name : List ℕ
   pub reads : ℕ
   pub writes : ℕ
+  pub given : ℕ
 
--- a desk that never fails: its files, the name of the file that was begun last, and the room that this file has with no new memory
+-- a desk that never fails: its files, the counts of the bytes that it gave, the name of the file that was begun last, and the room that this file has with no new memory
 pub record SureFiles : Type 0 where
   pub files : List NamedBytes
+  pub counts : List NamedCounts
   pub begun : Option (List ℕ)
   pub spare : ℕ
 
--- a desk that fails where it is told to: also its counts of faults, its calls, and the numbers of those that fail
+-- a desk that fails where it is told to: also its calls, and the numbers of those that fail
 pub record PlannedFiles : Type 0 where
   pub files : List NamedBytes
   pub counts : List NamedCounts
@@ -48,6 +50,10 @@ read_count counts name = option_map_or (λ c. c.reads) (first_named (λ c. c.nam
 -- a name's count of failed writes
 abbrev pub write_count : List NamedCounts → Counts
 write_count counts name = option_map_or (λ c. c.writes) (first_named (λ c. c.name) counts name) 0
+
+-- a name's count of bytes that were given
+abbrev pub given_count : List NamedCounts → Counts
+given_count counts name = option_map_or (λ c. c.given) (first_named (λ c. c.name) counts name) 0
 
 -- there is memory for a name's counts
 abbrev pub IsCounted : List NamedCounts → List ℕ → Type 0

@@ -1,11 +1,16 @@
 -- Calls that are counted, and the faults that are planned for some of them.
-use Rattle.std.specs.Prelude.{ℕ, ◌+◌, ◌-◌, ◌^◌, ◌≤◌, min, Result, Ok, Err}
+use Rattle.std.specs.Prelude.{ℕ, ◌+◌, ◌≤◌, min, Result, Ok, Err}
+use Rattle.ports.specs.Causes.{last_count}
 use Rattle.ports.specs.declared.fault.PortFault.{PortFault}
 use Rattle.ports.specs.declared.fault.PortFault.TheVariants.{Failed, Memory}
 
--- one more; at the last value of its type a count stands still
+-- so many more
+abbrev pub count_plus : ℕ → ℕ → ℕ
+count_plus more n = min (n + more) last_count
+
+-- one more
 abbrev pub next_count : ℕ → ℕ
-next_count n = min (n + 1) (2 ^ 64 - 1)
+next_count n = count_plus 1 n
 
 -- a count of faults after a call: one more where the call failed
 abbrev pub count_after : {T : Type 0} → Result T PortFault → ℕ → ℕ

@@ -1,13 +1,14 @@
 //! The outside as the program meets it: files by name, a sink for its output, and a gate between threads.
 //!
-//! A port counts its faults, so that an answer of a fault has a cause that a contract can name. A port
-//! may tell what it holds, and then contracts say what each call reads and writes.
+//! A port counts its faults, so that an answer of a fault has a cause that a contract can name, and the bytes
+//! of each file that it gave. A port may tell what it holds, and then contracts say what each call reads and
+//! writes.
 #![tactic(auto)]
 
 mod copying;
 mod desk;
+mod desk_counts;
 mod fault;
-mod fault_counts;
 mod file_desk;
 mod file_list;
 mod file_text;
@@ -15,6 +16,7 @@ mod gate;
 mod memory_desk;
 mod memory_sink;
 mod named;
+mod open_files;
 mod out_sink;
 mod sink;
 mod sure_desk;

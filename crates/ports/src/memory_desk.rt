@@ -1,15 +1,15 @@
 ghost use Rattle.std.specs.Prelude.{◌≡◌, ◌≤◌, ◌↔◌, ◌⊎◌, [], length, map, min, drop, Some, None, Contains, IfOk, OnOk, OnErr, IsTrue, IsSome, IsErr, IsErrOf, Err};
 ghost use Rattle.std.specs.Option.{option_copied};
 ghost use Rattle.ports.specs.Causes.{HasCause, SameCounts, SameOtherCounts};
-ghost use Rattle.ports.specs.Contents.{Tells, TakesSome, Reads, Puts, Begins, SameFiles, SameOtherFiles, content_of};
-ghost use Rattle.ports.specs.DeskState.{file_of, named, NamesDiffer, read_count, write_count, IsCounted};
+ghost use Rattle.ports.specs.Contents.{Tells, TakesSome, Reads, Gives, Puts, Begins, SameFiles, SameOtherFiles, content_of};
+ghost use Rattle.ports.specs.DeskState.{file_of, named, NamesDiffer, read_count, write_count, given_count, IsCounted};
 ghost use Rattle.ports.specs.Plans.{next_count, count_after, FailsAsPlanned, KeepsRoom};
 ghost use Rattle.ports.specs.declared.fault.PortFault.TheVariants as fault;
 
 use crate::copying::copy_from;
 use crate::desk::Desk;
+use crate::desk_counts::DeskCounts;
 use crate::fault::PortFault;
-use crate::fault_counts::FaultCounts;
 use crate::file_text::FileText;
 use crate::sure_desk::SureDesk;
 use std::alloc::{AllocError, Global};
@@ -19,7 +19,7 @@ use std::marker::Model;
 #[derive(Debug, Drop)]
 pub struct MemoryDesk {
     desk: SureDesk,
-    counts: FaultCounts,
+    counts: DeskCounts,
     calls: u64,
     fails: Vec<u64>,
 }
@@ -55,7 +55,7 @@ impl MemoryDesk {
     {
         MemoryDesk {
             desk: SureDesk::new(alloc, files),
-            counts: FaultCounts::new(alloc),
+            counts: DeskCounts::new(alloc),
             calls: 0,
             fails,
         }
@@ -87,30 +87,14 @@ impl MemoryDesk {
         self.fails.contains(&self.calls)
     }
 
-    /// Counts a failed read, where there is memory for its name.
-    fn failed_read(&mut self, name: &str) -> PortFault
-        ensures cause { HasCause {T = Unit} (read_count self.old.counts name.now) (read_count self.new.counts name.now) (Err result) }
-        ensures faults { read_count self.new.counts name.now
-            ≡ count_after {T = Unit} (Err result) (read_count self.old.counts name.now) }
-        ensures other_reads { SameOtherCounts name.now (read_count self.old.counts) (read_count self.new.counts) }
-        ensures writes { SameCounts (write_count self.old.counts) (write_count self.new.counts) }
-        ensures room { IsCounted self.old.counts name.now → result ≡ fault.Failed }
-        ensures same { self.new ≡ record self.old { counts = self.new.counts } }
-    {
-        if self.counts.enter(name).is_err() {
-            return PortFault::Memory;
-        }
-        self.counts.raise_reads(name);
-        PortFault::Failed
-    }
-
     /// Counts a failed write, where there is memory for its name.
     fn failed_write(&mut self, name: &str) -> PortFault
-        ensures cause { HasCause {T = Unit} (write_count self.old.counts name.now) (write_count self.new.counts name.now) (Err result) }
+        ensures cause { HasCause {T = Unit} fault.Failed (write_count self.old.counts name.now) (write_count self.new.counts name.now) (Err result) }
         ensures faults { write_count self.new.counts name.now
             ≡ count_after {T = Unit} (Err result) (write_count self.old.counts name.now) }
         ensures other_writes { SameOtherCounts name.now (write_count self.old.counts) (write_count self.new.counts) }
         ensures reads { SameCounts (read_count self.old.counts) (read_count self.new.counts) }
+        ensures given { SameCounts (given_count self.old.counts) (given_count self.new.counts) }
         ensures room { IsCounted self.old.counts name.now → result ≡ fault.Failed }
         ensures begun { self.old.begun ≡ Some name.now → result ≡ fault.Failed }
         ensures same { self.new ≡ record self.old { counts = self.new.counts } }
@@ -130,27 +114,40 @@ impl Desk for MemoryDesk {
 
     ghost write_faults = { λ d. write_count d.counts };
 
-    /// Gives as many bytes as the file and the buffer have, unless the call is to fail.
+    ghost given = { λ d. given_count d.counts };
+
+    /// Gives as many bytes as the file and the buffer have, unless the call is to fail. It takes the memory
+    /// for the name's counts before.
     fn get(&mut self, name: &str, at: u64, into: &mut [u8]) -> Result<usize, PortFault>
         ensures within { IfOk result (λ n. n ≤ length into.new) }
         ensures bytes { Tells (Some (file_of self.old.files)) (Some (file_of self.new.files)) (λ before now.
             SameFiles before now × IfOk result (Reads (before name.now) at into.new)) }
-        ensures cause { HasCause (read_count self.old.counts name.now) (read_count self.new.counts name.now) result }
+        ensures given { Gives result (given_count self.old.counts name.now) (given_count self.new.counts name.now) }
+        ensures other_given { SameOtherCounts name.now (given_count self.old.counts) (given_count self.new.counts) }
+        ensures cause { HasCause fault.Failed (read_count self.old.counts name.now) (read_count self.new.counts name.now) result }
         ensures other_reads { SameOtherCounts name.now (read_count self.old.counts) (read_count self.new.counts) }
         ensures writes { SameCounts (write_count self.old.counts) (write_count self.new.counts) }
         ensures most { IfOk result (λ n. n ≡ min (length (drop at (content_of (file_of self.old.files name.now)))) (length into.old)) }
 
-        // When it fails, and when it needs memory for that.
-        ensures planned { IsErr result
-            ↔ (Contains self.old.fails (next_count self.old.calls) ⊎ (file_of self.old.files name.now ≡ None)) }
+        // When it fails, and when it needs memory.
+        ensures planned { FailsAsPlanned (Contains self.old.fails (next_count self.old.calls) ⊎ (file_of self.old.files name.now ≡ None)) result }
         ensures faults { read_count self.new.counts name.now ≡ count_after result (read_count self.old.counts name.now) }
+        ensures counted { OnOk result (IsCounted self.new.counts name.now) }
         ensures room { IsCounted self.old.counts name.now → ¬ (IsErrOf result fault.Memory) }
         ensures same { self.new ≡ record self.old { calls = next_count self.old.calls; counts = self.new.counts } }
     {
         let fails = self.next_call();
+        self.counts.enter(name)?;
         match self.desk.file(name) {
-            Some(bytes) if !fails => Ok(copy_from(bytes, at, into)),
-            _ => Err(self.failed_read(name)),
+            Some(bytes) if !fails => {
+                let count = copy_from(bytes, at, into);
+                self.counts.raise_given(name, count);
+                Ok(count)
+            }
+            _ => {
+                self.counts.raise_reads(name);
+                Err(PortFault::Failed)
+            }
         }
     }
 
@@ -158,9 +155,10 @@ impl Desk for MemoryDesk {
     fn begin(&mut self, name: &str) -> Result<(), PortFault>
         ensures bytes { Tells (Some (file_of self.old.files)) (Some (file_of self.new.files)) (λ before now.
             SameOtherFiles name.now before now × Begins result (before name.now) (now name.now)) }
-        ensures cause { HasCause (write_count self.old.counts name.now) (write_count self.new.counts name.now) result }
+        ensures cause { HasCause fault.Failed (write_count self.old.counts name.now) (write_count self.new.counts name.now) result }
         ensures other_writes { SameOtherCounts name.now (write_count self.old.counts) (write_count self.new.counts) }
         ensures reads { SameCounts (read_count self.old.counts) (read_count self.new.counts) }
+        ensures given { SameCounts (given_count self.old.counts) (given_count self.new.counts) }
 
         // When it fails.
         ensures planned { FailsAsPlanned (Contains self.old.fails (next_count self.old.calls)) result }
@@ -187,9 +185,10 @@ impl Desk for MemoryDesk {
         ensures taken { IfOk result (TakesSome piece.now) }
         ensures bytes { Tells (Some (file_of self.old.files)) (Some (file_of self.new.files)) (λ before now.
             SameOtherFiles name.now before now × Puts piece.now result (before name.now) (now name.now)) }
-        ensures cause { HasCause (write_count self.old.counts name.now) (write_count self.new.counts name.now) result }
+        ensures cause { HasCause fault.Failed (write_count self.old.counts name.now) (write_count self.new.counts name.now) result }
         ensures other_writes { SameOtherCounts name.now (write_count self.old.counts) (write_count self.new.counts) }
         ensures reads { SameCounts (read_count self.old.counts) (read_count self.new.counts) }
+        ensures given { SameCounts (given_count self.old.counts) (given_count self.new.counts) }
         ensures whole { IfOk result (λ n. n ≡ length piece.now) }
 
         // When it fails.

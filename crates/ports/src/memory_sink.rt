@@ -76,7 +76,7 @@ impl Sink for MemorySink {
     fn write(&mut self, piece: &[u8]) -> Result<usize, PortFault>
         ensures taken { IfOk result (TakesSome piece.now) }
         ensures bytes { Tells (Some self.old.bytes) (Some self.new.bytes) (Appends piece.now result) }
-        ensures cause { HasCause self.old.faults self.new.faults result }
+        ensures cause { HasCause fault.Failed self.old.faults self.new.faults result }
         ensures whole { IfOk result (λ n. n ≡ length piece.now) }
 
         // When it fails.

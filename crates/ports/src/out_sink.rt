@@ -40,7 +40,7 @@ impl<R: Print> Sink for OutSink<R> {
     /// Writes once. A write that takes nothing of a piece that has something is a fault.
     fn write(&mut self, piece: &[u8]) -> Result<usize, PortFault>
         ensures taken { IfOk result (TakesSome piece.now) }
-        ensures cause { HasCause self.old self.new result }
+        ensures cause { HasCause fault.Failed self.old self.new result }
         ensures faults { self.new ≡ count_after result self.old }
         ensures room { ¬ (IsErrOf result fault.Memory) }
     {

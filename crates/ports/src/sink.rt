@@ -1,6 +1,7 @@
 ghost use Rattle.std.specs.Prelude.{ℕ, List, Option, IfOk};
 ghost use Rattle.ports.specs.Causes.{HasCause};
 ghost use Rattle.ports.specs.Contents.{Tells, TakesSome, Appends, AppendsAll};
+ghost use Rattle.ports.specs.declared.fault.PortFault.TheVariants as fault;
 
 use crate::fault::PortFault;
 
@@ -16,13 +17,13 @@ pub trait Sink {
     fn write(&mut self, piece: &[u8]) -> Result<usize, PortFault>
         ensures taken { IfOk result (TakesSome piece.now) }
         ensures bytes { Tells (told self.old) (told self.new) (Appends piece.now result) }
-        ensures cause { HasCause (faults self.old) (faults self.new) result };
+        ensures cause { HasCause fault.Failed (faults self.old) (faults self.new) result };
 }
 
-/// Appends all the bytes. After a fault a prefix of them was appended.
+/// Appends all the bytes. After a fault a front of them was appended, and not all.
 pub fn write_all<S: Sink>(sink: &mut S, bytes: &[u8]) -> Result<(), PortFault>
     ensures bytes { Tells (S.told sink.old) (S.told sink.new) (AppendsAll bytes.now result) }
-    ensures cause { HasCause (S.faults sink.old) (S.faults sink.new) result }
+    ensures cause { HasCause fault.Failed (S.faults sink.old) (S.faults sink.new) result }
 {
     let mut rest = bytes;
     while !rest.is_empty() {

@@ -1,13 +1,14 @@
 ghost use Rattle.std.specs.Prelude.{◌≡◌, ◌≤◌, [], length, map, min, drop, Some, None, IfOk, OnOk, OnErr, IsSome, IsOk, IsErrOf};
 ghost use Rattle.std.specs.Option.{option_copied};
 ghost use Rattle.ports.specs.Causes.{HasCause, SameCounts, SameOtherCounts};
-ghost use Rattle.ports.specs.Contents.{Tells, TakesSome, Reads, Puts, Begins, SameFiles, SameOtherFiles, content_of};
-ghost use Rattle.ports.specs.DeskState.{file_of, file_or_empty, named, NamesDiffer};
+ghost use Rattle.ports.specs.Contents.{Tells, TakesSome, Reads, Gives, Puts, Begins, SameFiles, SameOtherFiles, content_of};
+ghost use Rattle.ports.specs.DeskState.{file_of, file_or_empty, named, NamesDiffer, given_count, IsCounted};
 ghost use Rattle.ports.specs.Plans.{KeepsRoom};
 ghost use Rattle.ports.specs.declared.fault.PortFault.TheVariants as fault;
 
 use crate::copying::copy_from;
 use crate::desk::Desk;
+use crate::desk_counts::DeskCounts;
 use crate::fault::PortFault;
 use crate::file_list::{bytes_of, empty_file, extend_file, reserve_in};
 use crate::file_text::FileText;
@@ -19,6 +20,7 @@ use std::marker::Model;
 pub struct SureDesk {
     alloc: Global,
     files: Vec<FileText>,
+    counts: DeskCounts,
     begun: Option<String>,
 }
 
@@ -32,6 +34,7 @@ impl Model for SureDesk {
 
     ghost view = { λ d. record {
       files = map named d.files.items;
+      counts = d.counts;
       begun = option_map string_bytes d.begun;
       spare = begun_room d.files.items (option_map string_bytes d.begun);
     } };
@@ -43,12 +46,14 @@ impl SureDesk {
     pub fn new(alloc: Global, files: Vec<FileText>) -> SureDesk
         requires { NamesDiffer files.items }
         ensures files { result.files ≡ map named files.items }
+        ensures counts { result.counts ≡ [] }
         ensures begun { result.begun ≡ None }
         ensures spare { result.spare ≡ 0 }
     {
         SureDesk {
             alloc,
             files,
+            counts: DeskCounts::new(alloc),
             begun: None,
         }
     }
@@ -81,29 +86,39 @@ impl Desk for SureDesk {
 
     ghost write_faults = { λ _ _. 0 };
 
-    /// Gives as many bytes as the file and the buffer have.
+    ghost given = { λ d. given_count d.counts };
+
+    /// Gives as many bytes as the file and the buffer have. It takes the memory for the name's count before.
     fn get(&mut self, name: &str, at: u64, into: &mut [u8]) -> Result<usize, PortFault>
         ensures within { IfOk result (λ n. n ≤ length into.new) }
         ensures bytes { Tells (Some (file_or_empty self.old.files)) (Some (file_or_empty self.new.files)) (λ before now.
             SameFiles before now × IfOk result (Reads (before name.now) at into.new)) }
-        ensures cause { HasCause 0 0 result }
+        ensures given { Gives result (given_count self.old.counts name.now) (given_count self.new.counts name.now) }
+        ensures other_given { SameOtherCounts name.now (given_count self.old.counts) (given_count self.new.counts) }
+        ensures cause { HasCause fault.Failed 0 0 result }
         ensures other_reads { SameOtherCounts name.now (λ _. 0) (λ _. 0) }
         ensures writes { SameCounts (λ _. 0) (λ _. 0) }
-        ensures sure { IsOk result }
+        ensures sure { ¬ (IsErrOf result fault.Failed) }
         ensures most { IfOk result (λ n. n ≡ min (length (drop at (content_of (file_of self.old.files name.now)))) (length into.old)) }
-        ensures same { self.new ≡ self.old }
+        ensures counted { OnOk result (IsCounted self.new.counts name.now) }
+        ensures room { IsCounted self.old.counts name.now → IsOk result }
+        ensures same { self.new ≡ record self.old { counts = self.new.counts } }
     {
+        self.counts.enter(name)?;
         let bytes = self.file(name).unwrap_or(&[]);
-        Ok(copy_from(bytes, at, into))
+        let count = copy_from(bytes, at, into);
+        self.counts.raise_given(name, count);
+        Ok(count)
     }
 
     /// Makes the named file empty, and it is then the one that was begun last.
     fn begin(&mut self, name: &str) -> Result<(), PortFault>
         ensures bytes { Tells (Some (file_or_empty self.old.files)) (Some (file_or_empty self.new.files)) (λ before now.
             SameOtherFiles name.now before now × Begins result (before name.now) (now name.now)) }
-        ensures cause { HasCause 0 0 result }
+        ensures cause { HasCause fault.Failed 0 0 result }
         ensures other_writes { SameOtherCounts name.now (λ _. 0) (λ _. 0) }
         ensures reads { SameCounts (λ _. 0) (λ _. 0) }
+        ensures given { SameCounts (given_count self.old.counts) (given_count self.new.counts) }
         ensures sure { ¬ (IsErrOf result fault.Failed) }
 
         // The files that are there.
@@ -123,9 +138,10 @@ impl Desk for SureDesk {
         ensures taken { IfOk result (TakesSome piece.now) }
         ensures bytes { Tells (Some (file_or_empty self.old.files)) (Some (file_or_empty self.new.files)) (λ before now.
             SameOtherFiles name.now before now × Puts piece.now result (before name.now) (now name.now)) }
-        ensures cause { HasCause 0 0 result }
+        ensures cause { HasCause fault.Failed 0 0 result }
         ensures other_writes { SameOtherCounts name.now (λ _. 0) (λ _. 0) }
         ensures reads { SameCounts (λ _. 0) (λ _. 0) }
+        ensures given { SameCounts (given_count self.old.counts) (given_count self.new.counts) }
         ensures sure { ¬ (IsErrOf result fault.Failed) }
         ensures whole { IfOk result (λ n. n ≡ length piece.now) }
 
@@ -134,6 +150,7 @@ impl Desk for SureDesk {
         ensures stored { Puts piece.now result (file_of self.old.files name.now) (file_of self.new.files name.now) }
 
         // The file that was begun last, and its room.
+        ensures counts { self.new.counts ≡ self.old.counts }
         ensures begun { self.new.begun ≡ self.old.begun }
         ensures room { self.old.begun ≡ Some name.now → length piece.now ≤ self.old.spare
             → ¬ (IsErrOf result fault.Memory) }

@@ -60,7 +60,7 @@ impl Sink for SureSink {
     fn write(&mut self, piece: &[u8]) -> Result<usize, PortFault>
         ensures taken { IfOk result (TakesSome piece.now) }
         ensures bytes { Tells (Some self.old.bytes) (Some self.new.bytes) (Appends piece.now result) }
-        ensures cause { HasCause 0 0 result }
+        ensures cause { HasCause fault.Failed 0 0 result }
         ensures whole { IfOk result (λ n. n ≡ length piece.now) }
         ensures sure { ¬ (IsErrOf result fault.Failed) }
         ensures room { length piece.now ≤ self.old.spare → ¬ (IsErrOf result fault.Memory) }

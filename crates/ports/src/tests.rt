@@ -5,6 +5,7 @@ use crate::{
     ReadFault, Sink, SureDesk, SureSink, put_all, read_text, write_all,
 };
 use std::alloc::{AllocError, Global};
+use std::fs;
 use std::test::Fail;
 
 /// A file of `size` sevens.
@@ -145,5 +146,29 @@ fn the_system_keeps_files_and_prints(rt: HostRuntime) -> Result<(), Fail> {
         read_text(alloc, &mut desk, "kept", 6)?.as_slice(),
         b"".as_slice()
     );
+    Ok(())
+}
+
+#[test]
+fn a_file_is_read_on_where_another_takes_its_name(rt: HostRuntime) -> Result<(), Fail> {
+    let alloc = rt.alloc();
+    let mut desk = FileDesk::new(alloc, rt.clone()?);
+    let mut buffer = [0; 2];
+    for (name, bytes) in [("model", b"old one"), ("other", b"new one")] {
+        desk.begin(name)?;
+        put_all(&mut desk, name, bytes)?;
+    }
+    assert_eq!(rt; desk.get("model", 0, &mut buffer), Ok(2));
+    fs::rename(&rt, "other", "model")?;
+    // The file that was opened is read on, at any place, and what is put goes to the file that was begun.
+    for (at, wanted) in [(2, b"d "), (4, b"on"), (0, b"ne"), (1, b"ew")] {
+        assert_eq!(rt; desk.get("model", at, &mut buffer), Ok(2));
+        assert_eq!(rt; &buffer, wanted);
+    }
+    put_all(&mut desk, "model", b", too")?;
+    let text = read_text(alloc, &mut desk, "model", 99)?;
+    assert_eq!(rt; text.as_slice(), b"new one".as_slice());
+    let text = read_text(alloc, &mut desk, "other", 99);
+    assert_eq!(rt; text.err(), Some(ReadFault::Failed));
     Ok(())
 }

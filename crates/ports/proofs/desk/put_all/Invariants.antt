@@ -9,6 +9,7 @@ invariant-loop-rest g l = record {
   later : g.D.Desk.write_faults l.fn.desk l.name ≤ g.D.Desk.write_faults l.desk l.name;
   other_writes : SameOtherCounts l.name (g.D.Desk.write_faults l.fn.desk) (g.D.Desk.write_faults l.desk);
   reads : SameCounts (g.D.Desk.read_faults l.fn.desk) (g.D.Desk.read_faults l.desk);
+  given : SameCounts (g.D.Desk.given l.fn.desk) (g.D.Desk.given l.desk);
 }
 
 abbrev pub decreases-loop-rest : goal.decreases-loop-rest

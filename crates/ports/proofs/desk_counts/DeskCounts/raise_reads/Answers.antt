@@ -1,0 +1,10 @@
+use Rattle.std.proofs.Common.{ap}
+use Rattle.ports.proofs.CountLemmas.{Raises_reads}
+use Rattle.ports.proofs.desk_counts.DeskCounts.raise_reads.Goals as goal
+
+pub returns : goal.returns
+returns c =
+    let old = c.index_mut.result.now in
+    let new = c.raise_reads.new.self in
+    let here = rw c.as_slice.ensures.value at c.in-Some.ensures.place in
+    rw (← c.self.view_is) (Raises_reads c.self.inside.entries.items c.args.name.now c.in-Some.place old new here c.index_mut.ensures.value (ap (λ e. e.name) c.raise_reads.ensures.risen) (ap (λ e. e.reads) c.raise_reads.ensures.risen) c.raise_reads.ensures.later (ap (λ e. e.writes) c.raise_reads.ensures.risen) (ap (λ e. e.given) c.raise_reads.ensures.risen))
