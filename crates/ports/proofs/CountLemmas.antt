@@ -1,10 +1,10 @@
 -- The counts of names, after a change to their list.
-use Rattle.std.proofs.Common.{◌≡◌, ◌≢◌, ℕ, ◌≤◌, List, [], ◌∷◌, ◌++◌, get_or, set, Option, Some, None, Ok, Bool, true, false, Decides, IsSome, ◌⊎◌, inl, inr, ⊎_elim, sym, ap, subst, ◌∙◌, refl, arith, length-set}
+use Rattle.std.proofs.Common.{◌≡◌, ◌≢◌, ℕ, ◌≤◌, List, [], ◌∷◌, ◌++◌, get_or, set, None, Ok, Bool, true, false, Decides, IsSome, ◌⊎◌, inl, inr, ⊎_elim, sym, ap, subst, ◌∙◌, refl, arith, length-set}
 use Rattle.std.proofs.lemmas.Slice.Eq.{bytes_eq-Decides}
-use Rattle.std.specs.Option.{option_map_or, is_some}
+use Rattle.std.specs.Option.{option_map_or}
 use Rattle.std.specs.Str.{bytes_eq}
 use Rattle.ports.specs.Causes.{SameCounts, SameOtherCounts}
-use Rattle.ports.specs.Named.{first_named, IsFirst, IsPlaceOf}
+use Rattle.ports.specs.Named.{first_named, IsFirst}
 use Rattle.ports.specs.DeskState.{NamedCounts, read_count, write_count, given_count, IsCounted}
 use Rattle.ports.specs.DeskSteps.{Enters, Raises}
 use Rattle.ports.specs.Plans.{count_plus}

@@ -1,6 +1,6 @@
 -- A part of the bytes was appended to a file, and a rest is left.
-use Rattle.std.proofs.Common.{◌≡◌, ℕ, List, [], ◌++◌, length, take, drop, ◌<◌, Option, Some, None, Ok, Err, sym, ap, ◌∙◌, refl, inl, inr, append_assoc, take-append-drop}
-use Rattle.std.proofs.lemmas.List.{append-nil, take_at}
+use Rattle.std.proofs.Common.{◌≡◌, ℕ, List, [], ◌++◌, length, take, drop, ◌<◌, Option, Some, None, Ok, Err, sym, ap, ◌∙◌, inl, inr, append_assoc, take-append-drop}
+use Rattle.std.proofs.lemmas.List.{append-nil}
 use Rattle.ports.specs.declared.fault.PortFault.{PortFault}
 use Rattle.ports.proofs.Sending.{front_of}
 use Rattle.ports.specs.Contents.{Files, Tells, SameOtherFiles, content_of, Puts, PutsAll}

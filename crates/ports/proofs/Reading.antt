@@ -9,7 +9,7 @@ use Rattle.ports.specs.declared.fault.PortFault.TheVariants as port
 use Rattle.ports.specs.declared.fault.ReadFault.TheVariants as reading
 use Rattle.ports.specs.Causes.{RoseBy, last_count}
 use Rattle.ports.specs.Faults.{read_fault_of}
-use Rattle.ports.specs.Contents.{Files, Tells, SameFiles, content_of, Reads, ReadsText, GotText}
+use Rattle.ports.specs.Contents.{Files, Tells, SameFiles, content_of, Reads, ReadsText}
 
 -- the text is the front of the file
 pub record FrontOf (file : Option (List ℕ)) (text : List ℕ) : Type 0 where
