@@ -8,7 +8,7 @@ use Rattle.hll_tree.specs.declared.tree.Expr.{Expr}
 use Rattle.hll_tree.specs.declared.tree.HllModel.{HllModel}
 use Rattle.hll_tree.specs.Meaning.{variables, obligations, UsesOnly}
 use Rattle.hll_cli.specs.declared.verdict.Verdict.{Verdict}
-use Rattle.hll_cli.specs.Thin.{IsSpelled, IsThin}
+use Rattle.hll_cli.specs.Accepted.{IsSpelled, IsAccepted}
 use Rattle.hll_cli.specs.Report.{IsReport, AreRight, is_falsified, obligations_text, counts_text}
 
 -- what a `?` passes on is what the callee gave
@@ -16,36 +16,36 @@ pub passed_on : {T S E : Type 0} (r : Result T E) (d e : E) → IsErrAnd r (λ y
 passed_on r d e h failed = let p = err_from_is_err_and r h in cc (p.1, p.2)
 
 module _ (text : List ℕ) (m : HllModel) (names : List (List ℕ)) (only : (other : HllModel) → IsSpelled text other → other ≡ m) (are : names ≡ variables m) where
-  same_names : (other : HllModel) → IsThin text other → variables other ≡ names
-  same_names other thin = ap variables (only other thin.spelled) ∙ sym are
+  same_names : (other : HllModel) → IsAccepted text other → variables other ≡ names
+  same_names other accepted = ap variables (only other accepted.spelled) ∙ sym are
 
-  pub too_many : 12 < length names → (other : HllModel) → IsThin text other → ⊥
-  too_many many other thin =
-      let few = thin.few_inputs in
-      let same = ap length (same_names other thin) in
+  pub too_many : 12 < length names → (other : HllModel) → IsAccepted text other → ⊥
+  too_many many other accepted =
+      let few = accepted.few_inputs in
+      let same = ap length (same_names other accepted) in
       omega arith
 
-  pub repeated : (IsDistinct bytes_eq names → ⊥) → (other : HllModel) → IsThin text other → ⊥
-  repeated not_distinct other thin = not_distinct (subst (IsDistinct bytes_eq) (same_names other thin) thin.distinct)
+  pub repeated : (IsDistinct bytes_eq names → ⊥) → (other : HllModel) → IsAccepted text other → ⊥
+  repeated not_distinct other accepted = not_distinct (subst (IsDistinct bytes_eq) (same_names other accepted) accepted.distinct)
 
-  pub undeclared : (es : List Expr) → es ≡ obligations m → (AllByRecursion (UsesOnly names) es → ⊥) → (other : HllModel) → IsThin text other → ⊥
-  undeclared es asked unknown other thin =
-      let declared = rw (same_names other thin) at thin.declared in
-      unknown (subst (AllByRecursion (UsesOnly names)) (ap obligations (only other thin.spelled) ∙ sym asked) declared)
+  pub undeclared : (es : List Expr) → es ≡ obligations m → (AllByRecursion (UsesOnly names) es → ⊥) → (other : HllModel) → IsAccepted text other → ⊥
+  undeclared es asked unknown other accepted =
+      let declared = rw (same_names other accepted) at accepted.declared in
+      unknown (subst (AllByRecursion (UsesOnly names)) (ap obligations (only other accepted.spelled) ∙ sym asked) declared)
 
-  pub thin_text : IsSpelled text m → length names ≤ 12 → IsDistinct bytes_eq names → (es : List Expr) → es ≡ obligations m → AllByRecursion (UsesOnly names) es → IsThin text m
-  thin_text spelled few distinct es asked declared = record {
+  pub accepted_text : IsSpelled text m → length names ≤ 12 → IsDistinct bytes_eq names → (es : List Expr) → es ≡ obligations m → AllByRecursion (UsesOnly names) es → IsAccepted text m
+  accepted_text spelled few distinct es asked declared = record {
     spelled = spelled;
     few_inputs = subst (λ (ns : List (List ℕ)). length ns ≤ 12) are few;
     distinct = subst (IsDistinct bytes_eq) are distinct;
     declared = rw (sym are, sym asked) declared;
   }
 
-  pub report_of : IsThin text m → (es : List Expr) (verdicts : List Verdict) (output : List ℕ) (falsified : Bool) → es ≡ obligations m → AreRight m es verdicts →
+  pub report_of : IsAccepted text m → (es : List Expr) (verdicts : List Verdict) (output : List ℕ) (falsified : Bool) → es ≡ obligations m → AreRight m es verdicts →
       output ≡ obligations_text text names 1 es verdicts ++ counts_text verdicts → falsified ≡ list_any is_falsified verdicts → IsReport text output falsified
-  report_of thin es verdicts output falsified asked right printed any = record {
+  report_of accepted es verdicts output falsified asked right printed any = record {
     model = m;
-    thin = thin;
+    accepted = accepted;
     verdicts = verdicts;
     right = rw (sym asked) right;
     printed = printed ∙ ap (λ ns. obligations_text text ns 1 es verdicts ++ counts_text verdicts) are ∙ ap (λ xs. obligations_text text (variables m) 1 xs verdicts ++ counts_text verdicts) asked;

@@ -4,4 +4,5 @@ pub mod Decisions
 pub mod Distinct
 pub mod Printed
 pub mod Rows
-pub mod Words
+pub mod Undecided
+pub mod CommandLine

@@ -1,5 +1,10 @@
+pub mod Accepted
 pub mod Answers
 pub mod Faults
+pub mod Lines
+pub mod Prove
+pub mod Reading
 pub mod Report
+pub mod Requests
 pub mod Table
-pub mod Thin
+pub mod Words

@@ -9,7 +9,8 @@ use Rattle.hll_tree.specs.declared.tree.HllModel.{HllModel}
 use Rattle.hll_tree.specs.Meaning.{Instant, History, variables, obligations, Holds, IsShortest}
 use Rattle.hll_cli.specs.declared.verdict.Verdict.{Verdict}
 use Rattle.hll_cli.specs.declared.verdict.Verdict.TheVariants.{Proved, Falsified}
-use Rattle.hll_cli.specs.Thin.{IsThin}
+use Rattle.hll_cli.specs.Accepted.{IsAccepted}
+use Rattle.hll_cli.specs.Lines.{line_feed, truth_text, place_text}
 
 -- ---- what a verdict means
 
@@ -31,15 +32,6 @@ is_falsified (Proved k) = false
 is_falsified (Falsified trace) = true
 
 -- ---- how it is printed
-
--- the end of a line
-abbrev pub line_feed : List ℕ
-line_feed = 10 ∷ []
-
--- a truth value as it is printed
-abbrev pub truth_text : Bool → List ℕ
-truth_text true = codes "true"
-truth_text false = codes "false"
 
 -- an input with its value, after a space
 unfoldable pub value_text : List ℕ → Bool → List ℕ
@@ -65,10 +57,6 @@ unfoldable pub verdict_text : List (List ℕ) → Verdict → List ℕ
 verdict_text names (Proved k) = codes "proved " ++ decimal k ++ line_feed
 verdict_text names (Falsified trace) = codes "falsified " ++ decimal (length trace) ++ line_feed ++ trace_text names 0 trace
 
--- a line and a column
-unfoldable pub place_text : LineColumn → List ℕ
-place_text place = decimal place.line ++ codes ":" ++ decimal place.column
-
 -- what stands before the verdict on an obligation: its number and its place
 unfoldable pub heading_text : ℕ → LineColumn → List ℕ
 heading_text number place = codes "obligation " ++ decimal number ++ codes " at " ++ place_text place ++ codes ": "
@@ -93,7 +81,7 @@ report_text text m verdicts = obligations_text text (variables m) 1 (obligations
 -- the report on a text: a right verdict for each obligation, and what is printed of them
 pub record IsReport (text : List ℕ) (output : List ℕ) (falsified : Bool) : Type 0 where
   pub model : HllModel
-  pub thin : IsThin text model
+  pub accepted : IsAccepted text model
   pub verdicts : List Verdict
   pub right : AreRight model (obligations model) verdicts
   pub printed : output ≡ report_text text model verdicts

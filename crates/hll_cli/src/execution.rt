@@ -1,25 +1,52 @@
 //! The top call: it does all that the program does.
 
-ghost use Rattle.std.specs.Prelude.{◌≡◌, ℕ, List, ◌⊎◌, map, string_bytes, true, false};
-ghost use Rattle.ports.specs.Causes.{Rose, SameCounts, SameOtherCounts};
+ghost use Rattle.std.specs.Prelude.{◌≡◌, ℕ, List, ◌⊎◌, map, string_bytes, Some, None, IfSome, IfOk, true, false};
+ghost use Rattle.ports.specs.Causes.{Rose, SameCounts};
 ghost use Rattle.ports.specs.Contents.{Tells, SameFiles};
-ghost use Rattle.hll_cli.specs.Answers.{IsProve, AsksForThin, IsReported, IsDecided, IsLong, IsUnbuilt, IsUsage, IsUnread, Told, Writes, WritesFront, Ends, IsStatus};
+ghost use Rattle.hll_cli.specs.Answers.{IsAnswer, HasAnswer, Writes, WritesFront, Ends, IsStatus, IsReported, IsUsageStatus};
+ghost use Rattle.hll_cli.specs.Lines.{usage_line, refusal_line};
+ghost use Rattle.hll_cli.specs.Prove.{IsDecided, IsRefused, HasAccepted};
+ghost use Rattle.hll_cli.specs.Reading.{view_of, ReadsNothing, ReadsOnly};
+ghost use Rattle.hll_cli.specs.Words.{request_of, Prove};
+ghost use Rattle.hll_cli.specs.declared.answer.Status.TheVariants as status;
+ghost use Rattle.hll_cli.specs.declared.fault.Refusal.TheVariants as refusal;
 
-use crate::command::{Status, answer_to};
+use crate::answer::{Answer, Status};
+use crate::prove::prove;
+use crate::words::Command;
 use ports::{Desk, Gate, PortFault, Sink, write_all};
-use std::alloc::Global;
+use std::alloc::{AllocError, Global};
 use std::thread::Threads;
+
+/// What is answered to the words.
+fn answer_to<D: Desk>(alloc: Global, words: &[String], desk: &mut D) -> Result<Answer, AllocError>
+    ensures answer { let view = view_of (D.told desk.old) (D.read_faults desk.old) (D.read_faults desk.new) (D.given desk.old) (D.given desk.new) in
+        IfOk result (λ a. IsAnswer (request_of (map string_bytes words.now)) view a.status a.output.items) }
+    ensures files { Tells (D.told desk.old) (D.told desk.new) SameFiles }
+    ensures idle { let view = view_of (D.told desk.old) (D.read_faults desk.old) (D.read_faults desk.new) (D.given desk.old) (D.given desk.new) in
+        request_of (map string_bytes words.now) ≡ None → ReadsNothing view }
+    ensures others { let view = view_of (D.told desk.old) (D.read_faults desk.old) (D.read_faults desk.new) (D.given desk.old) (D.given desk.new) in
+        (name : List ℕ) → request_of (map string_bytes words.now) ≡ Some (Prove name) → ReadsOnly name view }
+    ensures writes { SameCounts (D.write_faults desk.old) (D.write_faults desk.new) }
+{
+    match Command::read(words) {
+        None => Answer::usage(alloc),
+        Some(Command::Prove { model }) => prove(alloc, desk, model),
+    }
+}
 
 /// Answers the words, and writes the answer.
 fn execute<D: Desk, O: Sink>(alloc: Global, words: &[String], desk: &mut D, out: &mut O) -> Status
-    ensures ends { Told (D.told desk.old) (O.told out.old) (O.told out.new) (λ files. Ends (map string_bytes words.now) files result) }
-    ensures usage { result ≡ Status.Usage → (name : List ℕ) → IsProve (map string_bytes words.now) name → ⊥ }
-    ensures unread { result ≡ Status.ReadFault → (name : List ℕ) × IsProve (map string_bytes words.now) name
-        × Rose (D.read_faults desk.old name) (D.read_faults desk.new name) }
-    ensures unwritten { result ≡ Status.WriteFault → Rose (O.faults out.old) (O.faults out.new) }
+    ensures ends { let view = view_of (D.told desk.old) (D.read_faults desk.old) (D.read_faults desk.new) (D.given desk.old) (D.given desk.new) in
+        Tells (O.told out.old) (O.told out.new) (Ends (IsAnswer (request_of (map string_bytes words.now)) view) result) }
+    ensures answered { let view = view_of (D.told desk.old) (D.read_faults desk.old) (D.read_faults desk.new) (D.given desk.old) (D.given desk.new) in
+        HasAnswer (IsAnswer (request_of (map string_bytes words.now)) view) result }
+    ensures unwritten { result ≡ status.WriteFault → Rose (O.faults out.old) (O.faults out.new) }
     ensures files { Tells (D.told desk.old) (D.told desk.new) SameFiles }
-    ensures other_reads { (name : List ℕ) → IsProve (map string_bytes words.now) name
-        → SameOtherCounts name (D.read_faults desk.old) (D.read_faults desk.new) }
+    ensures idle { let view = view_of (D.told desk.old) (D.read_faults desk.old) (D.read_faults desk.new) (D.given desk.old) (D.given desk.new) in
+        request_of (map string_bytes words.now) ≡ None → ReadsNothing view }
+    ensures others { let view = view_of (D.told desk.old) (D.read_faults desk.old) (D.read_faults desk.new) (D.given desk.old) (D.given desk.new) in
+        (name : List ℕ) → request_of (map string_bytes words.now) ≡ Some (Prove name) → ReadsOnly name view }
     ensures writes { SameCounts (D.write_faults desk.old) (D.write_faults desk.new) }
 {
     match answer_to(alloc, words, desk) {
@@ -32,8 +59,8 @@ fn execute<D: Desk, O: Sink>(alloc: Global, words: &[String], desk: &mut D, out:
     }
 }
 
-/// Runs the command `prove MODEL` and answers the exit status. Nothing is written but to `out`: the report,
-/// or one line that says why there is none.
+/// Runs the command that the words ask for and answers the exit status. Nothing is written but to `out`: what the
+/// command answers, or one line that says why there is none.
 pub fn run<R: Threads + Sync, D: Desk, O: Sink, G: Gate + Sync>(
     _rt: &R,
     alloc: Global,
@@ -44,37 +71,41 @@ pub fn run<R: Threads + Sync, D: Desk, O: Sink, G: Gate + Sync>(
 ) -> u8
     ensures known { IsStatus result }
 
-    // All printed obligations are proved, and so they hold.
-    ensures proved { result ≡ 0 → Told (D.told desk.old) (O.told out.old) (O.told out.new)
-        (λ files. Writes (IsDecided (map string_bytes words.now) files false)) }
-    // A falsified obligation is printed, with a shortest trace that breaks it.
-    ensures falsified { result ≡ 1 → Told (D.told desk.old) (O.told out.old) (O.told out.new)
-        (λ files. Writes (IsDecided (map string_bytes words.now) files true)) }
-    ensures refused { result ≡ 3 → Told (D.told desk.old) (O.told out.old) (O.told out.new)
-        (λ files. Writes (λ output. IsLong (map string_bytes words.now) files output ⊎ IsUnbuilt (map string_bytes words.now) files output)) }
+    // Words that ask for nothing.
+    ensures words { result ≡ 4 → request_of (map string_bytes words.now) ≡ None }
+    ensures wrong_words { request_of (map string_bytes words.now) ≡ None → IsUsageStatus result }
+    ensures usage { result ≡ 4 → Tells (O.told out.old) (O.told out.new) (Writes (λ output. output ≡ usage_line)) }
+    ensures idle { request_of (map string_bytes words.now) ≡ None → ReadsNothing (view_of (D.told desk.old) (D.read_faults desk.old) (D.read_faults desk.new) (D.given desk.old) (D.given desk.new)) }
 
-    ensures words { result ≡ 4 → (name : List ℕ) → IsProve (map string_bytes words.now) name → ⊥ }
-    ensures usage { result ≡ 4 → Told (D.told desk.old) (O.told out.old) (O.told out.new) (λ files. Writes (IsUsage (map string_bytes words.now))) }
-
-    ensures unread_cause { result ≡ 5 → (name : List ℕ) × IsProve (map string_bytes words.now) name
-        × Rose (D.read_faults desk.old name) (D.read_faults desk.new name) }
-    ensures unread { result ≡ 5 → Told (D.told desk.old) (O.told out.old) (O.told out.new) (λ files. Writes (IsUnread (map string_bytes words.now))) }
-
-    ensures unwritten_cause { result ≡ 6 → Rose (O.faults out.old) (O.faults out.new) }
-    ensures unwritten { result ≡ 6 → Told (D.told desk.old) (O.told out.old) (O.told out.new) (WritesFront (map string_bytes words.now)) }
-    ensures memory { result ≡ 7 → Told (D.told desk.old) (O.told out.old) (O.told out.new)
-        (λ files before now. (now ≡ before) ⊎ WritesFront (map string_bytes words.now) files before now) }
-
-    // A text that is built gets its report, unless the model's file or the output fails, or memory runs out.
-    ensures complete { Told (D.told desk.old) (O.told out.old) (O.told out.new) (λ files before now.
-        (asked : AsksForThin (map string_bytes words.now) files) → IsReported result
-        ⊎ Rose (D.read_faults desk.old asked.name) (D.read_faults desk.new asked.name)
+    // `prove`: all printed obligations are proved, and so they hold; or a falsified one is printed, with a shortest trace
+    // that breaks it; or the text is refused.
+    ensures proved { (name : List ℕ) → request_of (map string_bytes words.now) ≡ Some (Prove name) → result ≡ 0
+        → Tells (O.told out.old) (O.told out.new) (Writes (IsDecided (view_of (D.told desk.old) (D.read_faults desk.old) (D.read_faults desk.new) (D.given desk.old) (D.given desk.new)) name false)) }
+    ensures falsified { (name : List ℕ) → request_of (map string_bytes words.now) ≡ Some (Prove name) → result ≡ 1
+        → Tells (O.told out.old) (O.told out.new) (Writes (IsDecided (view_of (D.told desk.old) (D.read_faults desk.old) (D.read_faults desk.new) (D.given desk.old) (D.given desk.new)) name true)) }
+    ensures refused { (name : List ℕ) → request_of (map string_bytes words.now) ≡ Some (Prove name) → result ≡ 3
+        → Tells (O.told out.old) (O.told out.new) (Writes (IsRefused (view_of (D.told desk.old) (D.read_faults desk.old) (D.read_faults desk.new) (D.given desk.old) (D.given desk.new)) name status.Refused)) }
+    ensures unread { (name : List ℕ) → request_of (map string_bytes words.now) ≡ Some (Prove name) → result ≡ 5
+        → Tells (O.told out.old) (O.told out.new) (Writes (λ output. output ≡ refusal_line name refusal.Unread)) }
+    ensures unread_cause { (name : List ℕ) → request_of (map string_bytes words.now) ≡ Some (Prove name) → result ≡ 5
+        → Rose (D.read_faults desk.old name) (D.read_faults desk.new name) }
+    // A text that is accepted gets its report, unless the model's file or the output fails, or memory runs out.
+    ensures complete { (name : List ℕ) → request_of (map string_bytes words.now) ≡ Some (Prove name)
+        → IfSome (D.told desk.old) (λ files. HasAccepted files name → IsReported result
+        ⊎ Rose (D.read_faults desk.old name) (D.read_faults desk.new name)
         ⊎ Rose (O.faults out.old) (O.faults out.new)) }
 
-    // No file is changed, and no count but that of the model's reads and that of the sink.
+    // An output that breaks off is a front of what this call would have answered, and not all of it.
+    ensures unwritten_cause { result ≡ 6 → Rose (O.faults out.old) (O.faults out.new) }
+    ensures unwritten { result ≡ 6 → Tells (O.told out.old) (O.told out.new)
+        (WritesFront (IsAnswer (request_of (map string_bytes words.now)) (view_of (D.told desk.old) (D.read_faults desk.old) (D.read_faults desk.new) (D.given desk.old) (D.given desk.new)))) }
+    ensures memory { result ≡ 7 → Tells (O.told out.old) (O.told out.new) (λ before now. (now ≡ before)
+        ⊎ WritesFront (IsAnswer (request_of (map string_bytes words.now)) (view_of (D.told desk.old) (D.read_faults desk.old) (D.read_faults desk.new) (D.given desk.old) (D.given desk.new))) before now) }
+
+    // No file is changed, and no file is read but the model.
     ensures files { Tells (D.told desk.old) (D.told desk.new) SameFiles }
-    ensures other_reads { (name : List ℕ) → IsProve (map string_bytes words.now) name
-        → SameOtherCounts name (D.read_faults desk.old) (D.read_faults desk.new) }
+    ensures other_reads { (name : List ℕ) → request_of (map string_bytes words.now) ≡ Some (Prove name)
+        → ReadsOnly name (view_of (D.told desk.old) (D.read_faults desk.old) (D.read_faults desk.new) (D.given desk.old) (D.given desk.new)) }
     ensures writes { SameCounts (D.write_faults desk.old) (D.write_faults desk.new) }
 {
     execute(alloc, words, desk, out).code()

@@ -1,13 +1,16 @@
-//! The command: it reads a text, decides its obligations and prints the report.
+//! The commands: they read texts, decide them and print what was found.
 #![tactic(auto)]
 
-mod command;
+mod answer;
+mod collect;
 mod decision;
 mod execution;
+mod fault;
+mod prove;
 mod report;
 mod table;
-mod thin;
 mod verdict;
+mod words;
 
 pub use execution::run;
 pub use verdict::Verdict;

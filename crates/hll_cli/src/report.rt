@@ -3,7 +3,8 @@
 ghost use Rattle.std.specs.Prelude.{◌≡◌, ◌≤◌, ◌++◌, length, map, decimal, IfOk, OnOk};
 ghost use Rattle.std.specs.List.{list_any, AllByRecursion};
 ghost use Rattle.hll_lexer.specs.Place.{place_of};
-ghost use Rattle.hll_cli.specs.Report.{is_falsified, value_text, values_text, instant_text, trace_text, verdict_text, place_text, heading_text, obligations_text, counts_text};
+ghost use Rattle.hll_cli.specs.Lines.{place_text};
+ghost use Rattle.hll_cli.specs.Report.{is_falsified, value_text, values_text, instant_text, trace_text, verdict_text, heading_text, obligations_text, counts_text};
 
 use crate::verdict::Verdict;
 use hll_lexer::{LineColumn, place, place_from};
@@ -104,7 +105,7 @@ fn push_verdict(out: &mut Vec<u8>, names: &[&[u8]], verdict: &Verdict) -> Result
 }
 
 /// Appends a line and a column.
-#[tactic(auto, unfolding(crate::specs::Report::place_text))]
+#[tactic(auto, unfolding(crate::specs::Lines::place_text))]
 fn push_place(out: &mut Vec<u8>, place: LineColumn) -> Result<(), AllocError>
     ensures { OnOk result (out.new.items ≡ out.old.items ++ place_text place) }
 {

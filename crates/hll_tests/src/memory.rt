@@ -1,8 +1,10 @@
 //! The command on a text in memory.
 
-ghost use Rattle.std.specs.Prelude.{◌≡◌, IfOk, length, map, string_bytes};
+ghost use Rattle.std.specs.Prelude.{◌≡◌, IfOk, List, ℕ, Some, length, map, string_bytes};
 ghost use Rattle.ports.specs.DeskState.{file_or_empty};
-ghost use Rattle.hll_cli.specs.Answers.{AsksForThin, IsReported};
+ghost use Rattle.hll_cli.specs.Answers.{IsReported};
+ghost use Rattle.hll_cli.specs.Prove.{HasAccepted};
+ghost use Rattle.hll_cli.specs.Words.{request_of, Prove};
 
 use hll_cli::run;
 use ports::{Desk, FileText, OpenGate, Sink, SureDesk, SureSink};
@@ -41,8 +43,8 @@ pub fn run_over<R: Threads + Sync, D: Desk, O: Sink>(
     Ok(run(rt, alloc, &words, desk, out, &OpenGate))
 }
 
-/// Runs the command over ports that only want of memory stops. There a text that is built gets its report,
-/// unless memory runs out.
+/// Runs the command over ports that only want of memory stops. There a text that is accepted gets its
+/// report, unless memory runs out.
 fn run_surely<R: Threads + Sync>(
     rt: &R,
     alloc: Global,
@@ -50,7 +52,8 @@ fn run_surely<R: Threads + Sync>(
     desk: &mut SureDesk,
     out: &mut SureSink,
 ) -> u8
-    ensures { AsksForThin (map string_bytes words.now) (file_or_empty desk.old.files) → IsReported result }
+    ensures { (name : List ℕ) → request_of (map string_bytes words.now) ≡ Some (Prove name)
+        → HasAccepted (file_or_empty desk.old.files) name → IsReported result }
 {
     run(rt, alloc, words, desk, out, &OpenGate)
 }

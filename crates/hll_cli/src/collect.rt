@@ -1,4 +1,4 @@
-//! The texts that are built: what they declare, and what is asked of them.
+//! What a text declares, and what is asked of it.
 
 ghost use Rattle.std.specs.Prelude.{◌≡◌, ℕ, ◌≤◌, ◌<◌, ◌++◌, List, length, map, IsTrue, ◌↔◌, IfOk, OnOk};
 ghost use Rattle.std.specs.List.{flat_map, IsDistinct};

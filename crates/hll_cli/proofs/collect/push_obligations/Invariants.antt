@@ -1,5 +1,5 @@
 use Rattle.std.proofs.Common.{◌≡◌, ◌++◌, map, take}
-use Rattle.hll_cli.proofs.thin.push_obligations.Given as goal
+use Rattle.hll_cli.proofs.collect.push_obligations.Given as goal
 
 abbrev pub invariant-loop-expression : goal.invariant-loop-expression
 invariant-loop-expression l =

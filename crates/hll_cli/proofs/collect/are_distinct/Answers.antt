@@ -1,6 +1,6 @@
 use Rattle.std.proofs.lemmas.Bool.{false≢true}
 use Rattle.hll_cli.proofs.Distinct.{distinct_past, not_distinct_at, none_left}
-use Rattle.hll_cli.proofs.thin.are_distinct.Goals as goal
+use Rattle.hll_cli.proofs.collect.are_distinct.Goals as goal
 
 pub loop-i-preserved : goal.loop-i-preserved
 loop-i-preserved c = distinct_past (λ n. n.now) c.args.names.now c.loop-i.i _ c.loop-i-test.true c.in-None.ensures.none c.loop-i.invariant

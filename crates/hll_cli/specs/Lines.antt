@@ -1,0 +1,29 @@
+-- How values are printed, and the lines that stand in place of a report.
+use Rattle.std.specs.Prelude.{ℕ, Bool, true, false, List, [], ◌∷◌, ◌++◌, codes}
+use Rattle.std.specs.Fmt.{decimal}
+use Rattle.hll_lexer.specs.declared.places.LineColumn.{LineColumn}
+use Rattle.hll_cli.specs.declared.fault.Refusal.{Refusal}
+use Rattle.hll_cli.specs.declared.fault.Refusal.TheVariants.{Unread, Long, Unbuilt}
+
+-- the end of a line
+abbrev pub line_feed : List ℕ
+line_feed = 10 ∷ []
+
+-- a truth value
+abbrev pub truth_text : Bool → List ℕ
+truth_text true = codes "true"
+truth_text false = codes "false"
+
+-- a line and a column
+unfoldable pub place_text : LineColumn → List ℕ
+place_text place = decimal place.line ++ codes ":" ++ decimal place.column
+
+-- the line on how the program is called
+abbrev pub usage_line : List ℕ
+usage_line = codes "usage: hll prove MODEL" ++ line_feed
+
+-- the line on why the file of this name has no answer of its own
+abbrev pub refusal_line : List ℕ → Refusal → List ℕ
+refusal_line name Unread = codes "refused read " ++ name ++ line_feed
+refusal_line name Long = codes "refused Long" ++ line_feed
+refusal_line name Unbuilt = codes "refused Unbuilt" ++ line_feed
