@@ -18,6 +18,15 @@ truth_text false = codes "false"
 unfoldable pub place_text : LineColumn → List ℕ
 place_text place = decimal place.line ++ codes ":" ++ decimal place.column
 
+-- what stands before the verdict on an obligation: its number and its place
+unfoldable pub heading_text : ℕ → LineColumn → List ℕ
+heading_text number place = codes "obligation " ++ decimal number ++ codes " at " ++ place_text place ++ codes ": "
+
+-- the last line of a report: how many obligations have each verdict
+unfoldable pub totals_text : (proved falsified undecided : ℕ) → List ℕ
+totals_text proved falsified undecided =
+    codes "proved " ++ decimal proved ++ codes " falsified " ++ decimal falsified ++ codes " undecided " ++ decimal undecided ++ line_feed
+
 -- the line on how the program is called
 abbrev pub usage_line : List ℕ
 usage_line = codes "usage: hll prove MODEL" ++ line_feed

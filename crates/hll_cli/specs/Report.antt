@@ -2,7 +2,6 @@
 use Rattle.std.specs.Prelude.{◌≡◌, ℕ, suc, ◌-◌, Bool, true, false, List, [], ◌∷◌, ◌++◌, length, count_by, codes}
 use Rattle.std.specs.Fmt.{decimal}
 use Rattle.std.specs.List.{list_any}
-use Rattle.hll_lexer.specs.declared.places.LineColumn.{LineColumn}
 use Rattle.hll_lexer.specs.Place.{place_of}
 use Rattle.hll_tree.specs.declared.tree.Expr.{Expr}
 use Rattle.hll_tree.specs.declared.tree.HllModel.{HllModel}
@@ -10,7 +9,7 @@ use Rattle.hll_tree.specs.Meaning.{Instant, History, variables, obligations, Hol
 use Rattle.hll_cli.specs.declared.verdict.Verdict.{Verdict}
 use Rattle.hll_cli.specs.declared.verdict.Verdict.TheVariants.{Proved, Falsified}
 use Rattle.hll_cli.specs.Accepted.{IsAccepted}
-use Rattle.hll_cli.specs.Lines.{line_feed, truth_text, place_text}
+use Rattle.hll_cli.specs.Lines.{line_feed, truth_text, heading_text, totals_text}
 
 -- ---- what a verdict means
 
@@ -57,10 +56,6 @@ unfoldable pub verdict_text : List (List ℕ) → Verdict → List ℕ
 verdict_text names (Proved k) = codes "proved " ++ decimal k ++ line_feed
 verdict_text names (Falsified trace) = codes "falsified " ++ decimal (length trace) ++ line_feed ++ trace_text names 0 trace
 
--- what stands before the verdict on an obligation: its number and its place
-unfoldable pub heading_text : ℕ → LineColumn → List ℕ
-heading_text number place = codes "obligation " ++ decimal number ++ codes " at " ++ place_text place ++ codes ": "
-
 -- the obligations from a number on, each with its place and its verdict
 abbrev pub obligations_text : List ℕ → List (List ℕ) → ℕ → List Expr → List Verdict → List ℕ
 obligations_text text names number [] verdicts = []
@@ -72,7 +67,7 @@ obligations_text text names number (e ∷ es) (v ∷ vs) =
 abbrev pub counts_text : List Verdict → List ℕ
 counts_text verdicts =
     let falsified = count_by is_falsified verdicts in
-    codes "proved " ++ decimal (length verdicts - falsified) ++ codes " falsified " ++ decimal falsified ++ codes " undecided 0" ++ line_feed
+    totals_text (length verdicts - falsified) falsified 0
 
 -- the whole report: the obligations with their verdicts, and the counts
 abbrev pub report_text : List ℕ → HllModel → List Verdict → List ℕ

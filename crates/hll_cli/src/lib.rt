@@ -6,6 +6,7 @@ mod collect;
 mod decision;
 mod execution;
 mod fault;
+mod line;
 mod prove;
 mod report;
 mod table;

@@ -1,15 +1,14 @@
 //! The report: each obligation with its place and its verdict, and how many were proved and falsified.
 
-ghost use Rattle.std.specs.Prelude.{◌≡◌, ◌≤◌, ◌++◌, length, map, decimal, IfOk, OnOk};
+ghost use Rattle.std.specs.Prelude.{◌≡◌, ◌≤◌, ◌++◌, length, map, IfOk, OnOk};
 ghost use Rattle.std.specs.List.{list_any, AllByRecursion};
 ghost use Rattle.hll_lexer.specs.Place.{place_of};
-ghost use Rattle.hll_cli.specs.Lines.{place_text};
-ghost use Rattle.hll_cli.specs.Report.{is_falsified, value_text, values_text, instant_text, trace_text, verdict_text, heading_text, obligations_text, counts_text};
+ghost use Rattle.hll_cli.specs.Report.{is_falsified, value_text, values_text, instant_text, trace_text, verdict_text, obligations_text, counts_text};
 
+use crate::line::{Heading, Printed, Totals};
 use crate::verdict::Verdict;
 use hll_lexer::{LineColumn, place, place_from};
 use hll_tree::Expr;
-use itoa::Buffer;
 use sqlite_items::Items;
 use std::alloc::{AllocError, Global};
 
@@ -27,23 +26,15 @@ pub fn any_falsified(verdicts: &[Verdict]) -> bool
     verdicts.iter().any(is_falsified)
 }
 
-/// Appends a number in decimal.
-fn push_number(out: &mut Vec<u8>, number: u64) -> Result<(), AllocError>
-    ensures { OnOk result (out.new.items ≡ out.old.items ++ decimal number) }
-{
-    let mut buffer = Buffer::new();
-    out.extend_from_slice(buffer.format(number).as_bytes())
-}
-
 /// Appends the value of an input.
 #[tactic(auto, unfolding(crate::specs::Report::value_text))]
 fn push_value(out: &mut Vec<u8>, name: &[u8], value: bool) -> Result<(), AllocError>
     ensures { OnOk result (out.new.items ≡ out.old.items ++ value_text name.now value) }
 {
-    out.push(b' ')?;
+    out.extend_from_slice(b" ")?;
     out.extend_from_slice(name)?;
-    let text = if value { "=true" } else { "=false" };
-    out.extend_from_slice(text.as_bytes())
+    out.extend_from_slice(b"=")?;
+    value.print(out)
 }
 
 /// Appends the values of the inputs.
@@ -61,16 +52,15 @@ fn push_values(out: &mut Vec<u8>, names: &[&[u8]], values: &[bool]) -> Result<()
 fn push_instant(
     out: &mut Vec<u8>,
     names: &[&[u8]],
-    time: usize,
+    time: u64,
     values: &[bool],
 ) -> Result<(), AllocError>
     ensures { OnOk result (out.new.items ≡ out.old.items ++ instant_text (map (λ n. n.now) names.now) time values.now) }
 {
-    push_number(out, time as u64)?;
-    out.push(b':')?;
+    time.print(out)?;
+    out.extend_from_slice(b":")?;
     push_values(out, names, values)?;
-    out.push(b'\n')?;
-    Ok(())
+    out.extend_from_slice(b"\n")
 }
 
 /// Appends the instants of a trace.
@@ -78,7 +68,7 @@ fn push_trace(out: &mut Vec<u8>, names: &[&[u8]], trace: &[Items<bool>]) -> Resu
     ensures { OnOk result (out.new.items ≡ out.old.items ++ trace_text (map (λ n. n.now) names.now) 0 trace.now) }
 {
     for (time, values) in trace.iter().enumerate() {
-        push_instant(out, names, time, values.as_slice())?;
+        push_instant(out, names, time as u64, values.as_slice())?;
     }
     Ok(())
 }
@@ -91,40 +81,16 @@ fn push_verdict(out: &mut Vec<u8>, names: &[&[u8]], verdict: &Verdict) -> Result
     match verdict {
         Verdict::Proved(round) => {
             out.extend_from_slice(b"proved ")?;
-            push_number(out, u64::from(*round))?;
-            out.push(b'\n')?;
-            Ok(())
+            u64::from(*round).print(out)?;
+            out.extend_from_slice(b"\n")
         }
         Verdict::Falsified(trace) => {
             out.extend_from_slice(b"falsified ")?;
-            push_number(out, trace.len() as u64)?;
-            out.push(b'\n')?;
+            (trace.len() as u64).print(out)?;
+            out.extend_from_slice(b"\n")?;
             push_trace(out, names, trace.as_slice())
         }
     }
-}
-
-/// Appends a line and a column.
-#[tactic(auto, unfolding(crate::specs::Lines::place_text))]
-fn push_place(out: &mut Vec<u8>, place: LineColumn) -> Result<(), AllocError>
-    ensures { OnOk result (out.new.items ≡ out.old.items ++ place_text place) }
-{
-    push_number(out, place.line)?;
-    out.push(b':')?;
-    push_number(out, place.column)
-}
-
-/// Appends what stands before the verdict on an obligation.
-#[tactic(auto, unfolding(crate::specs::Report::heading_text))]
-fn push_heading(out: &mut Vec<u8>, number: usize, place: LineColumn) -> Result<(), AllocError>
-    ensures { OnOk result (out.new.items ≡ out.old.items ++ heading_text number place) }
-{
-    out.extend_from_slice(b"obligation ")?;
-    push_number(out, number as u64)?;
-    out.extend_from_slice(b" at ")?;
-    push_place(out, place)?;
-    out.extend_from_slice(b": ")?;
-    Ok(())
 }
 
 /// The place of a byte offset: on from an earlier place where that stands before it.
@@ -160,7 +126,11 @@ fn push_obligations(
         here = place_after(text, from, here, at);
         from = at;
         number += 1;
-        push_heading(out, number, here)?;
+        Heading {
+            number,
+            place: here,
+        }
+        .print(out)?;
         push_verdict(out, names, verdict)?;
     }
     Ok(())
@@ -174,11 +144,12 @@ fn push_counts(out: &mut Vec<u8>, verdicts: &[Verdict]) -> Result<(), AllocError
         .iter()
         .filter(|verdict| is_falsified(verdict))
         .count();
-    out.extend_from_slice(b"proved ")?;
-    push_number(out, (verdicts.len() - falsified) as u64)?;
-    out.extend_from_slice(b" falsified ")?;
-    push_number(out, falsified as u64)?;
-    out.extend_from_slice(b" undecided 0\n")
+    Totals {
+        proved: (verdicts.len() - falsified) as u64,
+        falsified: falsified as u64,
+        undecided: 0,
+    }
+    .print(out)
 }
 
 /// The report on obligations with their verdicts, as bytes.
