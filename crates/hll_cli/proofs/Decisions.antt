@@ -8,7 +8,7 @@ use Rattle.hll_tree.specs.declared.tree.Expr.{Expr}
 use Rattle.hll_tree.specs.declared.tree.HllModel.{HllModel}
 use Rattle.hll_tree.specs.Meaning.{variables, obligations, UsesOnly}
 use Rattle.hll_cli.specs.declared.verdict.Verdict.{Verdict}
-use Rattle.hll_cli.specs.Accepted.{IsSpelled, IsAccepted}
+use Rattle.hll_cli.specs.Accepted.{IsSpelled, IsAccepted, input_limit}
 use Rattle.hll_cli.specs.Report.{IsReport, AreRight, is_falsified, obligations_text, counts_text}
 
 -- what a `?` passes on is what the callee gave
@@ -19,7 +19,7 @@ module _ (text : List ℕ) (m : HllModel) (names : List (List ℕ)) (only : (oth
   same_names : (other : HllModel) → IsAccepted text other → variables other ≡ names
   same_names other accepted = ap variables (only other accepted.spelled) ∙ sym are
 
-  pub too_many : 12 < length names → (other : HllModel) → IsAccepted text other → ⊥
+  pub too_many : input_limit < length names → (other : HllModel) → IsAccepted text other → ⊥
   too_many many other accepted =
       let few = accepted.few_inputs in
       let same = ap length (same_names other accepted) in
@@ -33,10 +33,10 @@ module _ (text : List ℕ) (m : HllModel) (names : List (List ℕ)) (only : (oth
       let declared = rw (same_names other accepted) at accepted.declared in
       unknown (subst (AllByRecursion (UsesOnly names)) (ap obligations (only other accepted.spelled) ∙ sym asked) declared)
 
-  pub accepted_text : IsSpelled text m → length names ≤ 12 → IsDistinct bytes_eq names → (es : List Expr) → es ≡ obligations m → AllByRecursion (UsesOnly names) es → IsAccepted text m
+  pub accepted_text : IsSpelled text m → length names ≤ input_limit → IsDistinct bytes_eq names → (es : List Expr) → es ≡ obligations m → AllByRecursion (UsesOnly names) es → IsAccepted text m
   accepted_text spelled few distinct es asked declared = record {
     spelled = spelled;
-    few_inputs = subst (λ (ns : List (List ℕ)). length ns ≤ 12) are few;
+    few_inputs = subst (λ (ns : List (List ℕ)). length ns ≤ input_limit) are few;
     distinct = subst (IsDistinct bytes_eq) are distinct;
     declared = rw (sym are, sym asked) declared;
   }

@@ -4,6 +4,7 @@ ghost use Rattle.std.specs.Prelude.{◌≡◌, ℕ, ◌≤◌, ◌<◌, ◌^◌,
 ghost use Rattle.std.specs.List.{slice_index_or};
 ghost use Rattle.hll_tree.specs.declared.tree.Op.{Op};
 ghost use Rattle.hll_tree.specs.Meaning.{UsesOnly, value_at, chain_value};
+ghost use Rattle.hll_cli.specs.Accepted.{input_limit};
 ghost use Rattle.hll_cli.specs.Table.{row, IsColumn};
 
 use hll_tree::{Expr, Form, Op};
@@ -14,7 +15,7 @@ pub const MAX_INPUTS: usize = 12;
 
 /// How many rows a table over so many inputs has.
 fn rows(inputs: usize) -> usize
-    requires { inputs ≤ 12 }
+    requires { inputs ≤ input_limit }
     ensures { result ≡ 2 ^ inputs }
 {
     1 << inputs
@@ -30,7 +31,7 @@ fn constant(alloc: Global, rows: usize, value: bool) -> Result<Vec<bool>, AllocE
 
 /// The column of an input, by its position among the inputs.
 fn input(alloc: Global, inputs: usize, position: usize) -> Result<Vec<bool>, AllocError>
-    requires few { inputs ≤ 12 }
+    requires few { inputs ≤ input_limit }
     requires there { position < inputs }
     ensures length { IfOk result (λ c. length c.items ≡ 2 ^ inputs) }
     ensures each { IfOk result (λ c. (k : ℕ) → k < 2 ^ inputs →
@@ -115,7 +116,7 @@ fn or(column: &mut [bool], other: &[bool])
 
 /// The column of an expression over these inputs, if it uses no other names.
 pub fn column(alloc: Global, names: &[&[u8]], expr: &Expr) -> Result<Option<Vec<bool>>, AllocError>
-    requires { length names.now ≤ 12 }
+    requires { length names.now ≤ input_limit }
     ensures column { IfOk result (λ found. IfSome found (λ c. IsColumn (map (λ n. n.now) names.now) expr.now c.items)) }
     ensures declared { IfOk result (λ found. OnSome found (UsesOnly (map (λ n. n.now) names.now) expr.now)) }
     ensures unknown { IfOk result (λ found. IfNone found (UsesOnly (map (λ n. n.now) names.now) expr.now → ⊥)) }

@@ -4,6 +4,7 @@ ghost use Rattle.std.specs.Prelude.{◌≡◌, ℕ, ◌≤◌, ◌<◌, List, []
 ghost use Rattle.std.specs.List.{slice_index_or, AllByRecursion};
 ghost use Rattle.hll_tree.specs.declared.tree.HllModel.{HllModel};
 ghost use Rattle.hll_tree.specs.Meaning.{variables, UsesOnly};
+ghost use Rattle.hll_cli.specs.Accepted.{input_limit};
 ghost use Rattle.hll_cli.specs.Report.{IsRight, AreRight};
 ghost use Rattle.hll_cli.specs.Table.{row};
 
@@ -32,7 +33,7 @@ fn first_false(column: &[bool]) -> Option<usize>
 
 /// The values of the inputs at a row.
 fn instant(alloc: Global, inputs: usize, number: usize) -> Result<Items<bool>, AllocError>
-    requires { inputs ≤ 12 }
+    requires { inputs ≤ input_limit }
     ensures { IfOk result (λ values. values ≡ row inputs number) }
 {
     let mut values = Items::new(alloc);
@@ -57,7 +58,7 @@ fn verdict_on(
     names: &[&[u8]],
     obligation: &Expr,
 ) -> Result<Option<Verdict>, AllocError>
-    requires { length names.now ≤ 12 }
+    requires { length names.now ≤ input_limit }
     ensures right { IfOk result (λ found. IfSome found (λ v. (m : HllModel) →
         variables m ≡ map (λ n. n.now) names.now → IsRight m obligation.now v)) }
     ensures declared { IfOk result (λ found. OnSome found (UsesOnly (map (λ n. n.now) names.now) obligation.now)) }
@@ -81,7 +82,7 @@ pub fn verdicts(
     names: &[&[u8]],
     obligations: &[&Expr],
 ) -> Result<Option<Items<Verdict>>, AllocError>
-    requires { length names.now ≤ 12 }
+    requires { length names.now ≤ input_limit }
     ensures right { IfOk result (λ found. IfSome found (λ vs. (m : HllModel) →
         variables m ≡ map (λ n. n.now) names.now → AreRight m (map (λ e. e.now) obligations.now) vs)) }
     ensures declared { IfOk result (λ found. OnSome found

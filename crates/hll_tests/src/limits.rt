@@ -2,28 +2,6 @@ use crate::memory::prove;
 use std::alloc::{AllocError, Global};
 use std::test::Fail;
 
-/// A text of a head, so many openings, a middle, as many closings, and a tail.
-fn nested(
-    alloc: Global,
-    head: &[u8],
-    opening: &[u8],
-    times: usize,
-    middle: &[u8],
-    closing: &[u8],
-    tail: &[u8],
-) -> Result<Vec<u8>, AllocError> {
-    let mut text = Vec::from_slice(alloc, head)?;
-    for _ in 0..times {
-        text.extend_from_slice(opening)?;
-    }
-    text.extend_from_slice(middle)?;
-    for _ in 0..times {
-        text.extend_from_slice(closing)?;
-    }
-    text.extend_from_slice(tail)?;
-    Ok(text)
-}
-
 const UNBUILT: &[u8] = b"refused Unbuilt\n";
 
 const FALSIFIED: &[u8] =
@@ -33,80 +11,159 @@ const HEAD: &[u8] = b"Inputs: bool a; Proof Obligations: ";
 
 const DEEPER: &[u8] = b"Inputs: bool a; Proof Obligations: ~";
 
-/// The parts of a nested text, its status and what is written.
-type Nested = (
-    &'static [u8],
-    &'static [u8],
-    usize,
-    &'static [u8],
-    &'static [u8],
-    &'static [u8],
-    u8,
-    &'static [u8],
-);
+/// A nested text by its parts, its status and what is written.
+struct Nested {
+    head: &'static [u8],
+    opening: &'static [u8],
+    times: usize,
+    middle: &'static [u8],
+    closing: &'static [u8],
+    tail: &'static [u8],
+    status: u8,
+    output: &'static [u8],
+}
+
+impl Nested {
+    /// A head, so many openings, a middle, as many closings, and a tail.
+    fn text(&self, alloc: Global) -> Result<Vec<u8>, AllocError> {
+        let mut text = Vec::from_slice(alloc, self.head)?;
+        for _ in 0..self.times {
+            text.extend_from_slice(self.opening)?;
+        }
+        text.extend_from_slice(self.middle)?;
+        for _ in 0..self.times {
+            text.extend_from_slice(self.closing)?;
+        }
+        text.extend_from_slice(self.tail)?;
+        Ok(text)
+    }
+}
 
 const NESTED: [Nested; 11] = [
     // Levels of `~`, of `(`, and of both: 200 and 201.
-    (HEAD, b"~", 200, b"a", b"", b";", 1, FALSIFIED),
-    (HEAD, b"~", 201, b"a", b"", b";", 3, UNBUILT),
-    (
-        HEAD,
-        b"(",
-        200,
-        b"a",
-        b")",
-        b";",
-        1,
-        b"obligation 1 at 1:236: falsified 1\n0: a=false\nproved 0 falsified 1 undecided 0\n",
-    ),
-    (HEAD, b"(", 201, b"a", b")", b";", 3, UNBUILT),
-    (HEAD, b"~(", 100, b"a", b")", b";", 1, FALSIFIED),
-    (DEEPER, b"~(", 100, b"a", b")", b";", 3, UNBUILT),
+    Nested {
+        head: HEAD,
+        opening: b"~",
+        times: 200,
+        middle: b"a",
+        closing: b"",
+        tail: b";",
+        status: 1,
+        output: FALSIFIED,
+    },
+    Nested {
+        head: HEAD,
+        opening: b"~",
+        times: 201,
+        middle: b"a",
+        closing: b"",
+        tail: b";",
+        status: 3,
+        output: UNBUILT,
+    },
+    Nested {
+        head: HEAD,
+        opening: b"(",
+        times: 200,
+        middle: b"a",
+        closing: b")",
+        tail: b";",
+        status: 1,
+        output: b"obligation 1 at 1:236: falsified 1\n0: a=false\nproved 0 falsified 1 undecided 0\n",
+    },
+    Nested {
+        head: HEAD,
+        opening: b"(",
+        times: 201,
+        middle: b"a",
+        closing: b")",
+        tail: b";",
+        status: 3,
+        output: UNBUILT,
+    },
+    Nested {
+        head: HEAD,
+        opening: b"~(",
+        times: 100,
+        middle: b"a",
+        closing: b")",
+        tail: b";",
+        status: 1,
+        output: FALSIFIED,
+    },
+    Nested {
+        head: DEEPER,
+        opening: b"~(",
+        times: 100,
+        middle: b"a",
+        closing: b")",
+        tail: b";",
+        status: 3,
+        output: UNBUILT,
+    },
     // The levels of one operand are not those of the next.
-    (
-        HEAD,
-        b"~",
-        200,
-        b"a & ~a",
-        b"",
-        b";",
-        1,
-        b"obligation 1 at 1:238: falsified 1\n0: a=false\nproved 0 falsified 1 undecided 0\n",
-    ),
+    Nested {
+        head: HEAD,
+        opening: b"~",
+        times: 200,
+        middle: b"a & ~a",
+        closing: b"",
+        tail: b";",
+        status: 1,
+        output: b"obligation 1 at 1:238: falsified 1\n0: a=false\nproved 0 falsified 1 undecided 0\n",
+    },
     // 20,000 tokens, and one more.
-    (
-        HEAD,
-        b"a & ",
-        9_995,
-        b"a",
-        b"",
-        b";",
-        1,
-        b"obligation 1 at 1:38: falsified 1\n0: a=false\nproved 0 falsified 1 undecided 0\n",
-    ),
-    (HEAD, b"a & ", 9_995, b"~a", b"", b";", 3, UNBUILT),
+    Nested {
+        head: HEAD,
+        opening: b"a & ",
+        times: 9_995,
+        middle: b"a",
+        closing: b"",
+        tail: b";",
+        status: 1,
+        output: b"obligation 1 at 1:38: falsified 1\n0: a=false\nproved 0 falsified 1 undecided 0\n",
+    },
+    Nested {
+        head: HEAD,
+        opening: b"a & ",
+        times: 9_995,
+        middle: b"~a",
+        closing: b"",
+        tail: b";",
+        status: 3,
+        output: UNBUILT,
+    },
     // 2^24 bytes of blanks, and one more.
-    (
-        b"",
-        b" ",
-        16_777_216,
-        b"",
-        b"",
-        b"",
-        0,
-        b"proved 0 falsified 0 undecided 0\n",
-    ),
-    (b"", b" ", 16_777_217, b"", b"", b"", 3, b"refused Long\n"),
+    Nested {
+        head: b"",
+        opening: b" ",
+        times: 16_777_216,
+        middle: b"",
+        closing: b"",
+        tail: b"",
+        status: 0,
+        output: b"proved 0 falsified 0 undecided 0\n",
+    },
+    Nested {
+        head: b"",
+        opening: b" ",
+        times: 16_777_217,
+        middle: b"",
+        closing: b"",
+        tail: b"",
+        status: 3,
+        output: b"refused Long\n",
+    },
 ];
 
 #[test]
 fn levels_tokens_and_bytes_are_limited(rt: HostRuntime) -> Result<(), Fail> {
     let alloc = rt.alloc();
-    for (head, opening, times, middle, closing, tail, status, output) in NESTED {
-        let text = nested(alloc, head, opening, times, middle, closing, tail)?;
+    for case in &NESTED {
+        let text = case.text(alloc)?;
         let (answered, out) = prove(&rt, alloc, &text)?;
-        assert_eq!(rt; out.bytes(), output);
-        assert_eq!(rt; answered, status);
+        assert_eq!(rt; out.bytes(), case.output);
+        assert_eq!(rt; answered, case.status);
     }
     Ok(())
 }
@@ -173,8 +230,8 @@ fn no_reserved_word_is_a_name(rt: HostRuntime) -> Result<(), Fail> {
         "I",
     ];
     for word in words {
-        let text = nested(alloc, b"Inputs: bool ", word.as_bytes(), 1, b"", b"", b";")?;
-        let (answered, out) = prove(&rt, alloc, &text)?;
+        let text = format!(in alloc; "Inputs: bool {word};")?;
+        let (answered, out) = prove(&rt, alloc, text.as_bytes())?;
         assert_eq!(rt; out.bytes(), b"refused Unbuilt\n".as_slice());
         assert_eq!(rt; answered, 3);
     }

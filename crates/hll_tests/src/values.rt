@@ -7,25 +7,25 @@ use std::alloc::{AllocError, Global};
 use std::test::Fail;
 
 /// Expressions over `a`, `b` and `c`, that show how operators group.
-const EXPRESSIONS: [&[u8]; 18] = [
-    b"a -> b -> c",
-    b"(a -> b) -> c",
-    b"a -> b # c",
-    b"a # b -> c",
-    b"a -> b & c",
-    b"a & b -> c",
-    b"a # b & c",
-    b"a & b # c",
-    b"(a # b) & c",
-    b"a & (b # c)",
-    b"~a & b # c",
-    b"~(a & b) # c",
-    b"~a -> ~b -> ~c",
-    b"~~a & ~(~b # c)",
-    b"a & ~b & c -> false",
-    b"true -> a # FALSE",
-    b"a # b # c",
-    b"(a -> b -> c) -> (a & b -> c)",
+const EXPRESSIONS: [&str; 18] = [
+    "a -> b -> c",
+    "(a -> b) -> c",
+    "a -> b # c",
+    "a # b -> c",
+    "a -> b & c",
+    "a & b -> c",
+    "a # b & c",
+    "a & b # c",
+    "(a # b) & c",
+    "a & (b # c)",
+    "~a & b # c",
+    "~(a & b) # c",
+    "~a -> ~b -> ~c",
+    "~~a & ~(~b # c)",
+    "a & ~b & c -> false",
+    "true -> a # FALSE",
+    "a # b # c",
+    "(a -> b -> c) -> (a & b -> c)",
 ];
 
 /// The value of the expression with this number.
@@ -52,66 +52,47 @@ fn value(number: usize, a: bool, b: bool, c: bool) -> bool {
     }
 }
 
-/// A literal that is true where the input has this value, of two bytes.
-fn literal(value: bool, name: u8) -> [u8; 2] {
-    [if value { b' ' } else { b'~' }, name]
-}
-
-fn spelled(value: bool) -> &'static [u8] {
-    if value { b"true" } else { b"false" }
+/// What makes a literal true where its input has this value.
+fn sign(value: bool) -> &'static str {
+    if value { " " } else { "~" }
 }
 
 /// An obligation that is the expression at one row, and true at every other.
 fn push_obligation(
-    text: &mut Vec<u8>,
-    expression: &[u8],
-    row: [bool; 3],
+    text: &mut String,
+    expression: &str,
+    [a, b, c]: [bool; 3],
 ) -> Result<(), AllocError> {
-    text.extend_from_slice(b"~(")?;
-    text.extend_from_slice(&literal(row[0], b'a'))?;
-    text.extend_from_slice(b"&")?;
-    text.extend_from_slice(&literal(row[1], b'b'))?;
-    text.extend_from_slice(b"&")?;
-    text.extend_from_slice(&literal(row[2], b'c'))?;
-    text.extend_from_slice(b") # (")?;
-    text.extend_from_slice(expression)?;
-    text.extend_from_slice(b");\n")
+    let (a, b, c) = (sign(a), sign(b), sign(c));
+    write!(text, "~({a}a&{b}b&{c}c) # ({expression});\n")
 }
 
 /// The lines on an obligation: where it is false, it is so at its one row.
 fn push_verdict(
-    report: &mut Vec<u8>,
-    number: u8,
+    report: &mut String,
+    number: usize,
     value: bool,
-    row: [bool; 3],
+    [a, b, c]: [bool; 3],
 ) -> Result<(), AllocError>
     requires { number < 8 }
 {
-    report.extend_from_slice(b"obligation ")?;
-    report.push(b'1' + number)?;
-    report.extend_from_slice(b" at ")?;
-    report.push(b'2' + number)?;
-    report.extend_from_slice(b":13: ")?;
+    let (line, number) = (number + 2, number + 1);
+    write!(report, "obligation {number} at {line}:13: ")?;
     if value {
-        return report.extend_from_slice(b"proved 1\n");
+        report.push_str("proved 1\n")
+    } else {
+        write!(report, "falsified 1\n0: a={a} b={b} c={c}\n")
     }
-    report.extend_from_slice(b"falsified 1\n0: a=")?;
-    report.extend_from_slice(spelled(row[0]))?;
-    report.extend_from_slice(b" b=")?;
-    report.extend_from_slice(spelled(row[1]))?;
-    report.extend_from_slice(b" c=")?;
-    report.extend_from_slice(spelled(row[2]))?;
-    report.extend_from_slice(b"\n")
 }
 
 /// A text with an obligation for each row of an expression, and its report by the plain function.
 fn text_and_report(
     alloc: Global,
     number: usize,
-    expression: &[u8],
-) -> Result<(Vec<u8>, Vec<u8>), AllocError> {
-    let mut text = Vec::from_slice(alloc, b"Inputs: bool a, b, c; Proof Obligations:\n")?;
-    let mut report = Vec::new(alloc);
+    expression: &str,
+) -> Result<(String, String), AllocError> {
+    let mut text = String::from_str(alloc, "Inputs: bool a, b, c; Proof Obligations:\n")?;
+    let mut report = String::new(alloc);
     let mut falsified = 0;
     for place in 0..8 {
         let row = [place % 2 == 1, place / 2 % 2 == 1, place / 4 == 1];
@@ -122,11 +103,11 @@ fn text_and_report(
             falsified += 1;
         }
     }
-    report.extend_from_slice(b"proved ")?;
-    report.push(b'8' - falsified)?;
-    report.extend_from_slice(b" falsified ")?;
-    report.push(b'0' + falsified)?;
-    report.extend_from_slice(b" undecided 0\n")?;
+    let proved = 8 - falsified;
+    write!(
+        report,
+        "proved {proved} falsified {falsified} undecided 0\n"
+    )?;
     Ok((text, report))
 }
 
@@ -134,8 +115,8 @@ fn text_and_report(
 fn expressions_have_their_values_at_each_row(rt: HostRuntime) -> Result<(), Fail> {
     for (number, expression) in EXPRESSIONS.iter().enumerate() {
         let (text, report) = text_and_report(rt.alloc(), number, expression)?;
-        let (_, out) = prove(&rt, rt.alloc(), &text)?;
-        assert_eq!(rt; out.bytes(), report.as_slice());
+        let (_, out) = prove(&rt, rt.alloc(), text.as_bytes())?;
+        assert_eq!(rt; out.bytes(), report.as_bytes());
     }
     Ok(())
 }

@@ -1,6 +1,7 @@
 use Rattle.std.proofs.Common.{◌≤◌, length, map, sym, ap, ◌∙◌, arith}
 use Rattle.std.proofs.lemmas.List.{length-map}
 use Rattle.std.proofs.lemmas.Bool.{false≢true}
+use Rattle.hll_cli.specs.Accepted.{input_limit}
 use Rattle.hll_cli.proofs.Decisions.{passed_on, too_many, repeated, undeclared, accepted_text, report_of, as_many}
 use Rattle.hll_cli.proofs.decision.decide.Goals as goal
 use Rattle.hll_cli.proofs.decision.decide.Goals.{then-len-gt-MAX_INPUTS-via-then-len-gt-MAX_INPUTS, then-len-gt-MAX_INPUTS-via-else-len-gt-MAX_INPUTS+then-not-are_distinct}
@@ -38,7 +39,7 @@ returns-clause-report c =
     let distinct = (rw c.deref.ensures.value at c.are_distinct.ensures).0 c.if-not-are_distinct.false in
     let long = length-map c.in_ok-names.names.items (λ n. n.now) in
     let len = c.in_ok-names.names.ok.0 in
-    let few : length (map (λ n. n.now) c.in_ok-names.names.items) ≤ 12 = omega (arith, c.len.ensures) in
+    let few : length (map (λ n. n.now) c.in_ok-names.names.items) ≤ input_limit = omega (arith, c.len.ensures) in
     let m = c.in_ok-model.model in
     let only = c.in_ok-model.ensures.only in
     let are = c.in_ok-names.ensures in
