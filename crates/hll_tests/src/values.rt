@@ -61,9 +61,9 @@ fn sign(value: bool) -> &'static str {
 fn push_obligation(
     text: &mut String,
     expression: &str,
-    [a, b, c]: [bool; 3],
+    row: [bool; 3],
 ) -> Result<(), AllocError> {
-    let (a, b, c) = (sign(a), sign(b), sign(c));
+    let [a, b, c] = row.map(sign);
     write!(text, "~({a}a&{b}b&{c}c) # ({expression});\n")
 }
 
@@ -72,10 +72,11 @@ fn push_verdict(
     report: &mut String,
     number: usize,
     value: bool,
-    [a, b, c]: [bool; 3],
+    row: [bool; 3],
 ) -> Result<(), AllocError>
     requires { number < 8 }
 {
+    let [a, b, c] = row;
     let (line, number) = (number + 2, number + 1);
     write!(report, "obligation {number} at {line}:13: ")?;
     if value {
@@ -93,7 +94,7 @@ fn text_and_report(
 ) -> Result<(String, String), AllocError> {
     let mut text = String::from_str(alloc, "Inputs: bool a, b, c; Proof Obligations:\n")?;
     let mut report = String::new(alloc);
-    let mut falsified = 0;
+    let mut falsified: usize = 0;
     for place in 0..8 {
         let row = [place % 2 == 1, place / 2 % 2 == 1, place / 4 == 1];
         let value = value(number, row[0], row[1], row[2]);
