@@ -1,4 +1,5 @@
 pub mod Pieces
+pub mod Chains
 pub mod Standings
 pub mod Places
 pub mod PropagationLemmas

@@ -7,6 +7,7 @@
 mod checker;
 mod closing;
 mod containment;
+mod derivation;
 mod fault;
 mod formula;
 mod hints;
