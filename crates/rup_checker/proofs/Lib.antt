@@ -1,6 +1,6 @@
 pub mod Pieces
 pub mod Chains
-pub mod Standings
+pub mod Statuses
 pub mod Places
 pub mod PropagationLemmas
 pub mod TrailLemmas

@@ -12,7 +12,7 @@ use crate::formula::MAX_VARIABLES;
 use crate::known::KnownClauses;
 use crate::marks::LiteralSet;
 use crate::occurrences::Occurrences;
-use crate::standing::{Standing, judge};
+use crate::status::{Status, status_of};
 use std::alloc::{AllocError, Global};
 use std::marker::Model;
 
@@ -88,10 +88,10 @@ impl Trail {
         ensures followed { self.new.followed ≡ self.old.followed }
         ensures visited { IfOk result (λ conflict. MatchBool conflict (IsAllFalse (Contains self.old.taken) clause.now) (IsVisited self.old self.new clause.now)) }
     {
-        match judge(&self.marks, clause) {
-            Standing::False => return Ok(true),
-            Standing::Unit(literal) => self.take(-literal)?,
-            Standing::Open => {}
+        match status_of(&self.marks, clause) {
+            Status::False => return Ok(true),
+            Status::Unit(literal) => self.take(-literal)?,
+            Status::Open => {}
         }
         Ok(false)
     }

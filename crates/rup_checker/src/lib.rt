@@ -17,7 +17,7 @@ mod log;
 mod marks;
 mod occurrences;
 mod replay;
-mod standing;
+mod status;
 mod store;
 mod verdict;
 

@@ -87,7 +87,12 @@ impl<'a> Replay<'a> {
         match derivation.step(formula, clause, step.hints.as_slice()) {
             Ok(()) => {}
             Err(StepFault::Memory) => return Err(AllocError),
-            Err(_) => return Ok(None),
+            Err(
+                StepFault::Unknown(_)
+                | StepFault::NotUnit(_)
+                | StepFault::NoConflict
+                | StepFault::Literal(_),
+            ) => return Ok(None),
         }
         anchors.add(clause, number)?;
         Ok(Some(Replay {

@@ -12,12 +12,12 @@ returns-then-is_some c = λ busy.
     let range : All (IsLiteral c.variables.result) clause = subst (λ (n : ℕ). All (IsLiteral n) clause) same (subst (All (IsLiteral c.args.self.variables)) (sym c.as_slice-clause.ensures) busy.accepted.in_range) in
     some_outside c.first_outside.result c.variables.result clause (sym c.is_some.ensures ∙ c.if-is_some.true) c.first_outside.ensures range
 
-pub returns-in-Err : goal.returns-in-Err
-returns-in-Err c = λ busy.
+pub returns-in-Err-Unknown : goal.returns-in-Err-Unknown
+returns-in-Err-Unknown c = λ busy.
     let f = c.self.inside.formula.now in
     let clauses = f.clauses ++ c.self.inside.derivation.added.clauses in
-    elim c.in-Err.ensures.answer [
-      | inl refused ↦ refused_not_accepted f.variables clauses c.as_slice-clause.result.now c.as_slice.result.now c.in-Err.field-0 refused
+    elim c.in-Err-Unknown.ensures.answer [
+      | inl refused ↦ refused_not_accepted f.variables clauses c.as_slice-clause.result.now c.as_slice.result.now c.in-Err-Unknown.field-0 refused
           (accepted-same c.args.self.variables f.variables c.args.self.clauses clauses c.args.step.now.clause c.as_slice-clause.result.now c.args.step.now.hints c.as_slice.result.now
           (ap (λ (k : Cnf). k.variables) (sym c.self.view_is)) (ap (λ (k : Cnf). k.clauses) (sym c.self.view_is)) (sym c.as_slice-clause.ensures) (sym c.as_slice.ensures) busy.accepted)
       | inr memory ↦ absurd (search rules)

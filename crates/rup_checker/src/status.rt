@@ -1,12 +1,12 @@
 ghost use Rattle.std.specs.Prelude.{◌≡◌, All};
 ghost use Rattle.rup_checker.specs.Formulas.{IsLiteral};
-ghost use Rattle.rup_checker.specs.Marks.{IsMarked, Stands};
+ghost use Rattle.rup_checker.specs.Marks.{IsMarked, HasStatus};
 
 use crate::marks::LiteralSet;
 
 /// How a clause stands to the literals that are taken false.
 #[derive(Clone, Copy, Debug, PartialEq, Eq)]
-pub enum Standing {
+pub enum Status {
     /// All its literals are false.
     False,
     /// Just this literal isn't, however often it stands there.
@@ -16,9 +16,9 @@ pub enum Standing {
 }
 
 /// How a clause stands to a set of literals that are taken false.
-pub fn judge(taken: &LiteralSet, clause: &[i32]) -> Standing
+pub fn status_of(taken: &LiteralSet, clause: &[i32]) -> Status
     requires { All (IsLiteral taken.now.variables) clause.now }
-    ensures { Stands (IsMarked taken.now) clause.now result }
+    ensures { HasStatus (IsMarked taken.now) clause.now result }
 {
     let mut left = None;
     for &literal in clause {
@@ -28,11 +28,11 @@ pub fn judge(taken: &LiteralSet, clause: &[i32]) -> Standing
         match left {
             None => left = Some(literal),
             Some(other) if other == literal => {}
-            Some(_) => return Standing::Open,
+            Some(_) => return Status::Open,
         }
     }
     match left {
-        None => Standing::False,
-        Some(literal) => Standing::Unit(literal),
+        None => Status::False,
+        Some(literal) => Status::Unit(literal),
     }
 }

@@ -5,9 +5,9 @@ use Rattle.std.specs.Prelude.{Some, None, IsTrue, ◌≢◌}
 use Rattle.std.proofs.lemmas.List.Elements.{Contains-get_or}
 use Rattle.rup_checker.specs.Steps.{IsUnit}
 use Rattle.rup_checker.specs.Marks.{IsMarked}
-use Rattle.rup_checker.proofs.Standings.{IsLeft, next-taken, next-first, next-again, false_alarm, Contains-take}
-use Rattle.rup_checker.proofs.standing.judge.Goals.{in-None, in-Some}
-use Rattle.rup_checker.proofs.standing.judge.Goals as goal
+use Rattle.rup_checker.proofs.Statuses.{IsLeft, next-taken, next-first, next-again, false_alarm, Contains-take}
+use Rattle.rup_checker.proofs.status.status_of.Goals.{in-None, in-Some}
+use Rattle.rup_checker.proofs.status.status_of.Goals as goal
 
 pub loop-literal-preserved-then-contains : goal.loop-literal-preserved-then-contains
 loop-literal-preserved-then-contains c =
