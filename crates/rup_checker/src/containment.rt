@@ -5,7 +5,7 @@ ghost use Rattle.rup_checker.specs.Formulas.{IsLiteral};
 ghost use Rattle.rup_checker.specs.Marks.{IsMarked, Marks, IsClear};
 ghost use Rattle.rup_checker.specs.Logs.{IsNew};
 ghost use Rattle.rup_checker.specs.Occurrences.{listed};
-ghost use Rattle.rup_checker.specs.Containment.{AreAnchored, IsCovered};
+ghost use Rattle.rup_checker.specs.Containment.{AreAnchored, IsCovered, IsSubsumption};
 
 use crate::formula::MAX_VARIABLES;
 use crate::hints::{remove_all, take_false};
@@ -169,9 +169,7 @@ pub fn is_new(
     marks: &mut LiteralSet,
     clause: &[i32],
 ) -> bool
-    requires variables { marks.old.variables ≡ known.now.variables }
-    requires listed { anchors.now.occurrences.variables ≡ known.now.variables }
-    requires anchored { AreAnchored known.now.clauses (length known.now.clauses) anchors.now }
+    requires listed { IsSubsumption known.now anchors.now marks.old }
     requires in_range { All (IsLiteral known.now.variables) clause.now }
     requires clear { IsClear marks.old }
     ensures variables { marks.new.variables ≡ marks.old.variables }
