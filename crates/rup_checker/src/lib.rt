@@ -7,6 +7,7 @@
 mod checker;
 mod closing;
 mod containment;
+mod derivation;
 mod fault;
 mod formula;
 mod hints;
@@ -16,7 +17,7 @@ mod log;
 mod marks;
 mod occurrences;
 mod replay;
-mod standing;
+mod status;
 mod store;
 mod verdict;
 
@@ -27,6 +28,7 @@ pub use formula::{Formula, MAX_VARIABLES};
 pub use law::{accepted_is_not_refused, accepted_log_refutes, accepted_step_follows, one_refusal};
 pub use log::{Log, Step};
 pub use replay::busy;
+pub use store::Store;
 pub use verdict::check;
 
 #[cfg(test)]
