@@ -1,6 +1,11 @@
 //! Two low-level models as one, whose parts are true where the two are equal.
 #![tactic(auto)]
 
+mod fault;
+mod gates;
+mod joining;
+mod names;
 mod parts;
 
+pub use fault::MiterFault;
 pub use parts::MiterLll;
