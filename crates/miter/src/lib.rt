@@ -1,9 +1,11 @@
 //! Two low-level models as one, whose parts are true where the two are equal.
 #![tactic(auto)]
 
+mod comparing;
 mod fault;
 mod gates;
 mod joining;
+mod miter;
 mod names;
 mod parts;
 
