@@ -2,11 +2,11 @@
 use Rattle.std.proofs.Common.{◌≡◌, ◌≢◌, ℕ, zero, suc, ◌+◌, ◌*◌, ◌%◌, ◌<◌, ◌≤◌, List, [], ◌∷◌, ◌++◌, ◌⊎◌, inl, inr, Option, None, Some, unwrap_or, length, map, take, All, slice_get, get_or, Contains, refl, sym, ap, subst, ◌∙◌, append_assoc, length-append, arith}
 use Rattle.std.proofs.lemmas.Grind.{flat_map-append}
 use Rattle.std.proofs.lemmas.List.{append-nil, map-append, length-map, get_or_append_left}
-use Rattle.std.proofs.lemmas.List.Elements.{All-nil, All-cons, All-push, All-weaker}
+use Rattle.std.proofs.lemmas.List.Elements.{All-nil, All-cons, All-head, All-tail, All-push, All-weaker}
 use Rattle.std.proofs.lemmas.Option.{none-some, slice_get_within}
 use Rattle.lll_core.specs.declared.signal.Signal.{Signal}
 use Rattle.lll_core.specs.declared.signal.Signal.TheVariants.{One, Input, Latch, Imp, Eqv}
-use Rattle.lll_core.specs.Signals.{signal_of, own_names, signal_names}
+use Rattle.lll_core.specs.Signals.{signal_of, nexts, own_names, signal_names}
 use Rattle.lll_core.proofs.ListLemmas.{slice_get-map_back, slice_get-map_at, place_of, Contains-at}
 use Rattle.miter.specs.declared.gates.Gate.{Gate}
 use Rattle.miter.specs.declared.gates.Gate.TheVariants as gate
@@ -65,7 +65,7 @@ module _ (w : List ℕ) (a : List Signal) where
   ]
 
   -- each place is that of a signal
-  earlier_within : (before : List Signal) (s : Signal) (p : ℕ) → 0 < length a → IsEarlier w a before s p → p < length (a ++ before)
+  pub earlier_within : (before : List Signal) (s : Signal) (p : ℕ) → 0 < length a → IsEarlier w a before s p → p < length (a ++ before)
   earlier_within before One p some earlier = omega (arith, earlier, some, length-append a before)
   earlier_within before (Input name) p some earlier = omega (arith, slice_get_within a p (Input name) earlier, length-append a before)
   earlier_within before (Latch name init next) p some earlier = absurd earlier
@@ -165,7 +165,17 @@ none_joined a gates all = record {
   compared = refl;
   given_right = refl;
   gates_right = subst (λ k. AreGates k gates) (sym (append-nil a)) all;
+  nexts_right = λ n none. none;
 }
+
+-- a fact of each item, without the last
+pub All-front : {X : Type 0} (P : X → Type 0) (xs : List X) (x : X) → All P (xs ++ x ∷ []) → All P xs
+All-front P [] x all = All-nil P
+All-front P (y ∷ xs) x all = All-cons P y xs (All-head P y (xs ++ x ∷ []) all) (All-front P xs x (All-tail P y (xs ++ x ∷ []) all))
+
+pub All-last : {X : Type 0} (P : X → Type 0) (xs : List X) (x : X) → All P (xs ++ x ∷ []) → P x
+All-last P [] x all = All-head P x [] all
+All-last P (y ∷ xs) x all = All-last P xs x (All-tail P y (xs ++ x ∷ []) all)
 
 module _ (a done : List Signal) (places : List ℕ) (added latches : List Signal) (given : List (List ℕ)) (gates : List (Gate × ℕ))
     (old : IsJoined a done places added latches given gates) where
@@ -187,6 +197,7 @@ module _ (a done : List Signal) (places : List ℕ) (added latches : List Signal
     compared = compared_other a done places latches s p old.compared joined_long equal;
     given_right = old.given_right;
     gates_right = all;
+    nexts_right = λ n there. old.nexts_right n (All-front (λ t. All (λ x. signal_of x < n) (nexts t)) done s there);
   })
 
   -- the signal is appended
@@ -194,8 +205,9 @@ module _ (a done : List Signal) (places : List ℕ) (added latches : List Signal
       → more ≡ places ++ p ∷ [] → others ≡ added ++ x ∷ [] → p ≡ length (a ++ added)
       → ((w : List ℕ) → IsAppended (places ++ p ∷ w) (a ++ map (settled (places ++ p ∷ w)) added) s (settled (places ++ p ∷ w) x))
       → IsComparison a s p own → equal ≡ latches ++ own → names ≡ given ++ own_names x → AreGates (a ++ others) now
+      → ((n : ℕ) → All (λ y. signal_of y < n) (nexts s) → All (λ y. signal_of y < n) (nexts x))
       → IsJoined a (done ++ s ∷ []) more others equal names now
-  joined_appended s x p more others own equal names now is is_added is_last appended compared is_equal is_named all =
+  joined_appended s x p more others own equal names now is is_added is_last appended compared is_equal is_named all next =
       subst (λ k. IsJoined a (done ++ s ∷ []) k others equal names now) (sym is) (record {
         placed = λ w. subst (λ k. ArePlaced k a [] (done ++ s ∷ []) (places ++ p ∷ []) (map (settled k) others)) (sym (append_assoc places (p ∷ []) w))
             (subst (ArePlaced (places ++ p ∷ w) a [] (done ++ s ∷ []) (places ++ p ∷ []))
@@ -207,6 +219,9 @@ module _ (a done : List Signal) (places : List ℕ) (added latches : List Signal
         given_right = is_named ∙ ap (λ k. k ++ own_names x) old.given_right
             ∙ sym (ap signal_names is_added ∙ flat_map-append own_names added (x ∷ []) ∙ ap (λ k. signal_names added ++ k) (append-nil (own_names x)));
         gates_right = all;
+        nexts_right = λ n there. subst (All (λ t. All (λ y. signal_of y < n) (nexts t))) (sym is_added)
+            (All-push (λ t. All (λ y. signal_of y < n) (nexts t)) added x (old.nexts_right n (All-front (λ t. All (λ y. signal_of y < n) (nexts t)) done s there))
+            (next n (All-last (λ t. All (λ y. signal_of y < n) (nexts t)) done s there)));
       })
 
   -- ---- a gate
@@ -257,7 +272,12 @@ module _ (a done : List Signal) (places : List ℕ) (added latches : List Signal
       (gate_compared (places ++ []) s g p (becomes [])) (sym (append-nil latches)) (sym (append-nil given) ∙ ap (λ k. given ++ k) (nameless g))
       (subst (λ k. AreGates k now) (append_assoc a added (gate_signal g ∷ []) ∙ ap (λ k. a ++ k) (sym is_added))
           (AreGates-put (a ++ added) (gate_signal g) g gates now p old.gates_right refl found puts))
+      (λ n there. nextless n g)
     where
+      nextless : (n : ℕ) (h : Gate) → All (λ y. signal_of y < n) (nexts (gate_signal h))
+      nextless n (gate.Imp x y) = All-nil (λ z. signal_of z < n)
+      nextless n (gate.Eqv x y) = All-nil (λ z. signal_of z < n)
+
       nameless : (h : Gate) → [] ≡ own_names (gate_signal h)
       nameless (gate.Imp x y) = refl
       nameless (gate.Eqv x y) = refl
@@ -282,3 +302,4 @@ module _ (a done : List Signal) (places : List ℕ) (added latches : List Signal
       (partner, at, refl) is_equal is_named
       (subst (λ k. AreGates k gates) (append_assoc a added (Latch new image_of_init next ∷ []) ∙ ap (λ k. a ++ k) (sym is_added))
           (AreGates-other (a ++ added) (Latch new image_of_init next) gates old.gates_right (no_gate new image_of_init next)))
+      (λ n there. there)

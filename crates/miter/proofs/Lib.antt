@@ -1,6 +1,9 @@
+pub mod CompareLemmas
 pub mod Indexes
 pub mod JoiningLemmas
+pub mod MiterSignals
 pub mod NameLemmas
 pub mod NewNames
 pub mod Partners
 pub mod SignalNames
+pub mod Whole

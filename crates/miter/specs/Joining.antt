@@ -1,8 +1,8 @@
 -- Words for the contracts of private parts: what is known while the signals of b are put to those of a.
-use Rattle.std.specs.Prelude.{◌≡◌, ℕ, Bool, ◌||◌, is_some, List, [], ◌∷◌, ◌++◌, Option, None, Some, MatchOption, length, map, All, Contains, slice_get}
+use Rattle.std.specs.Prelude.{◌≡◌, ℕ, Bool, ◌||◌, is_some, ◌<◌, List, [], ◌∷◌, ◌++◌, Option, None, Some, MatchOption, length, map, All, Contains, slice_get}
 use Rattle.lll_core.specs.declared.signal.Signal.{Signal}
 use Rattle.lll_core.specs.declared.signal.Signal.TheVariants.{One, Input, Latch, Imp, Eqv}
-use Rattle.lll_core.specs.Signals.{own_names, signal_names}
+use Rattle.lll_core.specs.Signals.{signal_of, nexts, own_names, signal_names}
 use Rattle.miter.specs.declared.gates.Gate.{Gate}
 use Rattle.miter.specs.declared.gates.Gate.TheVariants as gate
 use Rattle.miter.specs.contracts.gates.GatePartialEq.TheImpl.{ghosts}
@@ -64,6 +64,10 @@ BecomesGate places (Latch name init next) g = ⊥
 BecomesGate places (Imp a b) g = gate_signal g ≡ Imp (image places a) (image places b)
 BecomesGate places (Eqv a b) g = gate_signal g ≡ Eqv (image places a) (image places b)
 
+-- each latch among these has a next that names one of so many signals
+abbrev pub HaveNexts : ℕ → List Signal → Type 0
+HaveNexts n signals = All (λ s. All (λ x. signal_of x < n) (nexts s)) signals
+
 -- what is known once the signals `done` of b have their places. Latches have their own nexts still
 pub record IsJoined (a done : List Signal) (places : List ℕ) (added latches : List Signal) (given : List (List ℕ))
     (gates : List (Gate × ℕ)) : Type 0 where
@@ -71,6 +75,7 @@ pub record IsJoined (a done : List Signal) (places : List ℕ) (added latches : 
   pub compared : AreComparisons a done places latches
   pub given_right : given ≡ signal_names added
   pub gates_right : AreGates (a ++ added) gates
+  pub nexts_right : (n : ℕ) → HaveNexts n done → HaveNexts n added
 
 abbrev pub Joins : List Signal → List Signal → Joining → Type 0
 Joins a done j = IsJoined a done j.places.items j.added.items j.latches.items j.given j.gates

@@ -5,9 +5,10 @@ mod comparing;
 mod fault;
 mod gates;
 mod joining;
-mod miter;
+mod making;
 mod names;
 mod parts;
 
 pub use fault::MiterFault;
+pub use making::miter;
 pub use parts::MiterLll;
