@@ -6,4 +6,5 @@ pub mod NameLemmas
 pub mod NewNames
 pub mod Partners
 pub mod SignalNames
+pub mod Splitting
 pub mod Whole

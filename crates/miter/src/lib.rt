@@ -5,10 +5,12 @@ mod comparing;
 mod fault;
 mod gates;
 mod joining;
+mod laws;
 mod making;
 mod names;
 mod parts;
 
 pub use fault::MiterFault;
+pub use laws::{miter_splits, paired_or_unpaired};
 pub use making::miter;
 pub use parts::MiterLll;
