@@ -1,3 +1,4 @@
+pub mod Agreeing
 pub mod CompareLemmas
 pub mod Indexes
 pub mod JoiningLemmas

@@ -19,7 +19,7 @@ use Rattle.miter.proofs.MiterSignals.{image_signal}
 -- ---- the first signals
 
 module _ (k : ℕ) where
-  front_value : (now : Instant) (x : ℕ) → signal_of x < k → value (take k now) x ≡ value now x
+  pub front_value : (now : Instant) (x : ℕ) → signal_of x < k → value (take k now) x ≡ value now x
   front_value now x lt = value-same now (take k now) x (get_or-take k now (signal_of x) false lt)
 
   front_now : (now : Instant) (s : Signal) (v : Bool) → All (λ x. signal_of x < k) (operands s) → HoldsNow now s v → HoldsNow (take k now) s v
@@ -97,7 +97,7 @@ StandsAt w signals (Latch name init next) p = (given : List ℕ) × (slice_get s
 StandsAt w signals (Imp x y) p = slice_get signals p ≡ Some (Imp (image w x) (image w y))
 StandsAt w signals (Eqv x y) p = slice_get signals p ≡ Some (Eqv (image w x) (image w y))
 
-stands_more : (w : List ℕ) (signals more : List Signal) (s : Signal) (p : ℕ) → StandsAt w signals s p → StandsAt w (signals ++ more) s p
+pub stands_more : (w : List ℕ) (signals more : List Signal) (s : Signal) (p : ℕ) → StandsAt w signals s p → StandsAt w (signals ++ more) s p
 stands_more w signals more One p at = at
 stands_more w signals more (Input name) p at = slice_get-append signals more p (Input name) at
 stands_more w signals more (Latch name init next) p at = (at.0, slice_get-append signals more p (Latch at.0 (image w init) (image w next)) at.1)

@@ -15,6 +15,6 @@ pub fn paired_or_unpaired()
 
 /// A run of a miter is a run of a and one of b at once, and so is a window.
 pub fn miter_splits()
-    ensures run { (a b : Lll) (m : MiterLll) → IsMiter a b m → Splits IsRun a b m }
-    ensures window { (a b : Lll) (m : MiterLll) → IsMiter a b m → Splits IsWindow a b m }
+    ensures run { (a b : Lll) (m : MiterLll) → Paired a b → IsMiter a b m → Splits IsRun a b m }
+    ensures window { (a b : Lll) (m : MiterLll) → Paired a b → IsMiter a b m → Splits IsWindow a b m }
 {}
