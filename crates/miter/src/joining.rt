@@ -57,7 +57,7 @@ fn is_input(signal: &Signal) -> bool
     }
 }
 
-fn is_latch(signal: &Signal) -> bool
+pub(crate) fn is_latch(signal: &Signal) -> bool
     ensures { result ≡ is_latch_of signal.now }
 {
     match signal {

@@ -2,6 +2,7 @@
 #![tactic(auto)]
 
 mod comparing;
+mod counting;
 mod fault;
 mod gates;
 mod joining;
@@ -10,6 +11,7 @@ mod making;
 mod names;
 mod parts;
 
+pub use counting::size;
 pub use fault::MiterFault;
 pub use laws::{miter_splits, paired_or_unpaired};
 pub use making::miter;
