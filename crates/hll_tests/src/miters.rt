@@ -9,6 +9,7 @@ use miter::{MiterFault, miter, size};
 use std::test::Fail;
 
 /// Two models, their miter and its parts.
+#[derive(Clone, Copy)]
 struct Case {
     a: &'static [u8],
     b: &'static [u8],
@@ -49,17 +50,44 @@ const FOUND_AGAIN: Case = Case {
     parts: &[0, 12, 0, 14],
 };
 
+const CASES: [Case; 4] = [TWO_LATCHES, TAKEN_BY_INPUTS, TAKEN_BY_LATCHES, FOUND_AGAIN];
+
 /// Two models, and what has no partner.
 const UNPAIRED: [(&[u8], &[u8], &[u8]); 6] = [
-    (SMALL, b"lll 1\n0 one\n1 input c#0\nassume 0\nkeep 0\nobligation 0\nend\n", b"c#0"),
-    (SMALL, b"lll 1\n0 one\n1 latch 0 0 a#0\nassume 0\nkeep 0\nobligation 0\nend\n", b"a#0"),
-    (SMALL, b"lll 1\n0 one\n1 input b#0\n2 latch 0 0 q\n3 input p\nassume 0\nkeep 0\nend\n", b"q"),
-    (SMALL, b"lll 1\n0 one\nassume 0\nkeep 0\nconstraint 0\nobligation 0\nend\n", b"constraints"),
-    (SMALL, b"lll 1\n0 one\nassume 0\nkeep 0\nend\n", b"obligations"),
-    (SMALL, b"lll 1\n0 one\nassume 0\nkeep 0\nconstraint 0\nend\n", b"constraints"),
+    (
+        SMALL,
+        b"lll 1\n0 one\n1 input c#0\nassume 0\nkeep 0\nobligation 0\nend\n",
+        b"c#0",
+    ),
+    (
+        SMALL,
+        b"lll 1\n0 one\n1 latch 0 0 a#0\nassume 0\nkeep 0\nobligation 0\nend\n",
+        b"a#0",
+    ),
+    (
+        SMALL,
+        b"lll 1\n0 one\n1 input b#0\n2 latch 0 0 q\n3 input p\nassume 0\nkeep 0\nend\n",
+        b"q",
+    ),
+    (
+        SMALL,
+        b"lll 1\n0 one\nassume 0\nkeep 0\nconstraint 0\nobligation 0\nend\n",
+        b"constraints",
+    ),
+    (
+        SMALL,
+        b"lll 1\n0 one\nassume 0\nkeep 0\nend\n",
+        b"obligations",
+    ),
+    (
+        SMALL,
+        b"lll 1\n0 one\nassume 0\nkeep 0\nconstraint 0\nend\n",
+        b"constraints",
+    ),
 ];
 
-const SMALL: &[u8] = b"lll 1\n0 one\n1 input a#0\n2 input b#0\n3 imp 2 4\nassume 0\nkeep 0\nobligation 6\nend\n";
+const SMALL: &[u8] =
+    b"lll 1\n0 one\n1 input a#0\n2 input b#0\n3 imp 2 4\nassume 0\nkeep 0\nobligation 6\nend\n";
 
 /// Whether the two are small enough for a miter.
 fn are_small(a: &Lll, b: &Lll) -> bool
@@ -70,7 +98,7 @@ fn are_small(a: &Lll, b: &Lll) -> bool
 
 #[test]
 fn miters_are_those_by_hand(rt: HostRuntime) -> Result<(), Fail> {
-    for case in [TWO_LATCHES, TAKEN_BY_INPUTS, TAKEN_BY_LATCHES, FOUND_AGAIN] {
+    for case in CASES {
         let a = read_lll(rt.alloc(), case.a)?;
         let b = read_lll(rt.alloc(), case.b)?;
         assert!(rt; are_small(&a, &b));

@@ -1,5 +1,5 @@
 -- The parts of a miter are true where the two models agree.
-use Rattle.std.proofs.Common.{◌≡◌, ℕ, zero, suc, ◌+◌, ◌*◌, ◌<◌, ◌≤◌, Bool, true, false, List, [], ◌∷◌, ◌++◌, ◌⊎◌, inl, inr, Some, length, map, take, All, slice_get, get_or, refl, sym, ap, subst, ◌∙◌, append_assoc, length-append, arith}
+use Rattle.std.proofs.Common.{◌≡◌, ℕ, zero, suc, ◌+◌, ◌*◌, ◌<◌, ◌≤◌, Bool, true, false, List, [], ◌∷◌, ◌++◌, Some, length, map, take, All, slice_get, get_or, refl, sym, ap, subst, ◌∙◌, append_assoc, length-append, arith}
 use Rattle.std.proofs.lemmas.List.{get_or-take, append-nil, length-map}
 use Rattle.std.proofs.lemmas.List.Elements.{All-nil, All-cons, All-head, All-tail, All-append, All-weaker, All-same}
 use Rattle.std.proofs.lemmas.Option.{none-some, same_Some, slice_get_within}
@@ -7,11 +7,11 @@ use Rattle.lll_core.specs.declared.lll.Lll.{Lll}
 use Rattle.lll_core.specs.declared.signal.Signal.{Signal}
 use Rattle.lll_core.specs.declared.signal.Signal.TheVariants.{One, Input, Latch, Imp, Eqv}
 use Rattle.lll_core.specs.Signals.{signal_of, NamesSignal, AreSignals}
-use Rattle.lll_core.specs.Tables.{Instant, Table, signal_value, value, are_equal, HoldsNow, GatesHold, IsWindow, IsRun}
-use Rattle.lll_core.proofs.ListLemmas.{slice_get-append, slice_get-last, slice_get-map_back, slice_get-map_at}
+use Rattle.lll_core.specs.Tables.{Instant, Table, signal_value, value, are_equal, GatesHold, IsWindow, IsRun}
+use Rattle.lll_core.proofs.ListLemmas.{slice_get-append, slice_get-last, slice_get-map_at}
 use Rattle.lll_core.proofs.ValueLemmas.{value-positive}
 use Rattle.miter.specs.declared.parts.MiterLll.{MiterLll}
-use Rattle.miter.specs.Pairs.{IsInputAt, IsLatchAt, Paired}
+use Rattle.miter.specs.Pairs.{IsLatchAt, Paired}
 use Rattle.miter.specs.Miters.{image, IsComparison, AreComparisons, comparisons, literals_from, IsMiterBy}
 use Rattle.miter.specs.Agreement.{ShareInputs, Agree, PartsHold, IsBoth, AreBoth}
 use Rattle.miter.proofs.JoiningLemmas.{placed_long, placed_within}
@@ -47,7 +47,7 @@ module _ (now : Instant) where
       let split : (pre ++ s ∷ equal) ++ post ≡ ((pre ++ s ∷ []) ++ equal) ++ post = ap (λ k. k ++ post) (sym (append_assoc pre (s ∷ []) equal)) in
       let next = subst (λ k. GatesHold k now) split gates in
       let at : slice_get (((pre ++ s ∷ []) ++ equal) ++ post) (length pre) ≡ Some (Eqv e.0 e.1) =
-          slice_get-append ((pre ++ s ∷ []) ++ equal) post (length pre) (Eqv e.0 e.1) (slice_get-append (pre ++ s ∷ []) equal (length pre) (Eqv e.0 e.1) (slice_get-last pre s ∙ ap Some e.2)) in
+      slice_get-append ((pre ++ s ∷ []) ++ equal) post (length pre) (Eqv e.0 e.1) (slice_get-append (pre ++ s ∷ []) equal (length pre) (Eqv e.0 e.1) (slice_get-last pre s ∙ ap Some e.2)) in
       let first = All-head IsTrue (2 * length pre) (literals_from (length pre + 1) (length equal)) all in
       All-cons (Tells now) s equal
       (e.0, e.1, e.2, same_values (value now e.0) (value now e.1) (sym (next (length pre) (Eqv e.0 e.1) at) ∙ sym (value-positive now (length pre)) ∙ first))
@@ -61,7 +61,7 @@ module _ (now : Instant) where
       let split : (pre ++ s ∷ equal) ++ post ≡ ((pre ++ s ∷ []) ++ equal) ++ post = ap (λ k. k ++ post) (sym (append_assoc pre (s ∷ []) equal)) in
       let next = subst (λ k. GatesHold k now) split gates in
       let at : slice_get (((pre ++ s ∷ []) ++ equal) ++ post) (length pre) ≡ Some (Eqv e.0 e.1) =
-          slice_get-append ((pre ++ s ∷ []) ++ equal) post (length pre) (Eqv e.0 e.1) (slice_get-append (pre ++ s ∷ []) equal (length pre) (Eqv e.0 e.1) (slice_get-last pre s ∙ ap Some e.2)) in
+      slice_get-append ((pre ++ s ∷ []) ++ equal) post (length pre) (Eqv e.0 e.1) (slice_get-append (pre ++ s ∷ []) equal (length pre) (Eqv e.0 e.1) (slice_get-last pre s ∙ ap Some e.2)) in
       All-cons IsTrue (2 * length pre) (literals_from (length pre + 1) (length equal))
       (value-positive now (length pre) ∙ next (length pre) (Eqv e.0 e.1) at ∙ values_same (value now e.0) (value now e.1) e.3)
       (subst (λ n. All IsTrue (literals_from n (length equal))) (length-append pre (s ∷ [])) (tell_literals (pre ++ s ∷ []) equal post next (All-tail (Tells now) s equal all)))
@@ -197,7 +197,7 @@ module _ (a b : Lll) (m : MiterLll) (w : List ℕ) (added latches roots : List S
     inputs_shared name i j at_i at_j =
         let here = slice_get-append of_a (added ++ (latches ++ roots)) i (Input name) at_i in
         let same : i ≡ get_or w j 0 = one_place all facts.distinct i (get_or w j 0) (Input name) (Input name) name
-            (ap (λ k. slice_get k i) whole_front ∙ here) refl (stand j (Input name) at_j) refl in
+        (ap (λ k. slice_get k i) whole_front ∙ here) refl (stand j (Input name) at_j) refl in
         a_signal i (slice_get_within of_a i (Input name) at_i) ∙ ap (signal_value now) same ∙ sym (b_signal j (slice_get_within of_b j (Input name) at_j))
 
     pub assume_same : value now m.lll.assume ≡ value (part_b now) b.assume
@@ -219,9 +219,9 @@ module _ (a b : Lll) (m : MiterLll) (w : List ℕ) (added latches roots : List S
         let third = All-tail Holds a.keep (image w b.keep ∷ a.assume ∷ last_parts) middle in
         let fourth = All-tail Holds (image w b.keep) (a.assume ∷ last_parts) third in
         let latches_hold = literals_tell now base latches roots (length base) gates (compared_below (length base) of_a of_b w latches some_base places_below by.compared)
-            (All-left Holds first_parts (a.keep ∷ image w b.keep ∷ a.assume ∷ last_parts) split) in
+        (All-left Holds first_parts (a.keep ∷ image w b.keep ∷ a.assume ∷ last_parts) split) in
         let roots_hold = subst (All (Tells now)) by.roots_right (literals_tell now (base ++ latches) roots [] (length base)
-            (subst (λ k. GatesHold k now) (sym (append-nil all)) gates) roots_are (All-tail Holds a.assume last_parts fourth)) in
+        (subst (λ k. GatesHold k now) (sym (append-nil all)) gates) roots_are (All-tail Holds a.assume last_parts fourth)) in
         let cs = comparisons w a.constraints b.constraints in
         let os = comparisons w a.obligations b.obligations in
         record {
@@ -246,11 +246,11 @@ module _ (a b : Lll) (m : MiterLll) (w : List ℕ) (added latches roots : List S
         let cs = comparisons w a.constraints b.constraints in
         let os = comparisons w a.obligations b.obligations in
         let latches_hold = tell_literals now base latches roots gates (tell_latches now of_a of_b w latches by.compared
-            (λ j name init next n at at_n. sym (a_signal n (slice_get_within of_a n (Latch name at_n.0 at_n.1) at_n.2))
-                ∙ agree.latches name n j at_n (init, next, at) ∙ b_signal j (slice_get_within of_b j (Latch name init next) at))) in
+        (λ j name init next n at at_n. sym (a_signal n (slice_get_within of_a n (Latch name at_n.0 at_n.1) at_n.2))
+        ∙ agree.latches name n j at_n (init, next, at) ∙ b_signal j (slice_get_within of_b j (Latch name init next) at))) in
         let roots_tell_all = All-same (Tells now) roots (cs ++ os) by.roots_right (All-append (Tells now) cs os
-            (tell_roots now w a.constraints b.constraints (sym (a_values a.constraints a.is_lll.constraints_there) ∙ agree.constraints ∙ b_values b.constraints b.is_lll.constraints_there))
-            (tell_roots now w a.obligations b.obligations (sym (a_values a.obligations a.is_lll.obligations_there) ∙ agree.obligations ∙ b_values b.obligations b.is_lll.obligations_there))) in
+        (tell_roots now w a.constraints b.constraints (sym (a_values a.constraints a.is_lll.constraints_there) ∙ agree.constraints ∙ b_values b.constraints b.is_lll.constraints_there))
+        (tell_roots now w a.obligations b.obligations (sym (a_values a.obligations a.is_lll.obligations_there) ∙ agree.obligations ∙ b_values b.obligations b.is_lll.obligations_there))) in
         let roots_hold = tell_literals now (base ++ latches) roots [] (subst (λ k. GatesHold k now) (sym (append-nil all)) gates) roots_tell_all in
         All-same Holds m.parts (first_parts ++ a.keep ∷ image w b.keep ∷ a.assume ∷ last_parts) by.parts
         (All-append Holds first_parts (a.keep ∷ image w b.keep ∷ a.assume ∷ last_parts) latches_hold

@@ -1,11 +1,10 @@
 -- The numbers of names and the first numbers of gates, as a signal comes.
-use Rattle.std.proofs.Common.{rules, ◌≡◌, ◌≢◌, ℕ, ◌<◌, Bool, true, false, List, [], ◌∷◌, ◌++◌, ◌⊎◌, inl, inr, Option, None, Some, MatchOption, unwrap_or, length, slice_get, Contains, refl, sym, ap, subst, ◌∙◌, true≢false, arith}
+use Rattle.std.proofs.Common.{rules, ◌≡◌, ◌≢◌, ℕ, Bool, true, false, List, [], ◌∷◌, ◌++◌, ◌⊎◌, inl, inr, Option, None, Some, MatchOption, unwrap_or, length, slice_get, Contains, refl, sym, ap, subst, ◌∙◌, true≢false, arith}
 use Rattle.std.specs.Str.{bytes_eq}
 use Rattle.std.proofs.lemmas.Option.{slice_get_within}
 use Rattle.std.proofs.lemmas.Slice.Eq.{bytes_eq-Decides}
 use Rattle.std.proofs.lemmas.List.Elements.{Contains-append_cases, Contains-push_cases}
 use Rattle.lll_core.specs.declared.signal.Signal.{Signal}
-use Rattle.lll_core.specs.declared.signal.Signal.TheVariants.{One, Input, Latch, Imp, Eqv}
 use Rattle.lll_core.specs.Signals.{own_names, signal_names}
 use Rattle.lll_core.proofs.ListLemmas.{slice_get-append, slice_get-last, slice_get-push, Contains-at}
 use Rattle.lll_core.proofs.SignalLemmas.{signal_names-push}

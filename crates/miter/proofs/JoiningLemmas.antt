@@ -1,16 +1,16 @@
 -- What is known of the signals of b so far, as one more comes.
-use Rattle.std.proofs.Common.{◌≡◌, ◌≢◌, ℕ, zero, suc, ◌+◌, ◌*◌, ◌%◌, ◌<◌, ◌≤◌, List, [], ◌∷◌, ◌++◌, ◌⊎◌, inl, inr, Option, None, Some, unwrap_or, length, map, take, All, slice_get, get_or, Contains, refl, sym, ap, subst, ◌∙◌, append_assoc, length-append, arith}
+use Rattle.std.proofs.Common.{◌≡◌, ◌≢◌, ℕ, zero, suc, ◌+◌, ◌*◌, ◌%◌, ◌<◌, ◌≤◌, List, [], ◌∷◌, ◌++◌, inl, inr, Some, unwrap_or, length, map, All, slice_get, Contains, refl, sym, ap, subst, ◌∙◌, append_assoc, length-append, arith}
 use Rattle.std.proofs.lemmas.Grind.{flat_map-append}
 use Rattle.std.proofs.lemmas.List.{append-nil, map-append, length-map, get_or_append_left}
-use Rattle.std.proofs.lemmas.List.Elements.{All-nil, All-cons, All-head, All-tail, All-push, All-weaker}
-use Rattle.std.proofs.lemmas.Option.{none-some, slice_get_within}
+use Rattle.std.proofs.lemmas.List.Elements.{All-nil, All-cons, All-head, All-tail, All-push}
+use Rattle.std.proofs.lemmas.Option.{slice_get_within}
 use Rattle.lll_core.specs.declared.signal.Signal.{Signal}
 use Rattle.lll_core.specs.declared.signal.Signal.TheVariants.{One, Input, Latch, Imp, Eqv}
 use Rattle.lll_core.specs.Signals.{signal_of, nexts, own_names, signal_names}
 use Rattle.lll_core.proofs.ListLemmas.{slice_get-map_back, slice_get-map_at, place_of, Contains-at}
 use Rattle.miter.specs.declared.gates.Gate.{Gate}
 use Rattle.miter.specs.declared.gates.Gate.TheVariants as gate
-use Rattle.miter.specs.Pairs.{HasPartner, IsLatchAt}
+use Rattle.miter.specs.Pairs.{IsLatchAt}
 use Rattle.miter.specs.Miters.{image, IsFirst, IsNewName, IsEarlier, IsAppended, ArePlaced, IsComparison, AreComparisons}
 use Rattle.miter.specs.Joining.{gate_signal, gate_number, AreGates, Puts, settled, BecomesGate, IsJoined}
 use Rattle.miter.proofs.Indexes.{AreGates-other, AreGates-put, AreGates-kept, number_next, number_earlier}
@@ -26,8 +26,15 @@ module _ (w : List ℕ) (a : List Signal) where
   placed_earlier before (x ∷ b) [] added s p placed earlier = absurd placed
   placed_earlier before (x ∷ b) (q ∷ here) added s p placed earlier = elim placed [
     | inl old ↦ inl (old.0, placed_earlier before b here added s p old.1 earlier)
-    | inr new ↦ inr (new.0, new.1, new.2, new.3, new.4, placed_earlier (before ++ new.0 ∷ []) b here new.1 s p new.5
-        (subst (λ k. IsEarlier w a k s p) (ap (λ y. before ++ y) new.2 ∙ sym (append_assoc before (new.0 ∷ []) new.1)) earlier))
+    | inr new ↦ inr (
+      new.0,
+      new.1,
+      new.2,
+      new.3,
+      new.4,
+      placed_earlier (before ++ new.0 ∷ []) b here new.1 s p new.5
+          (subst (λ k. IsEarlier w a k s p) (ap (λ y. before ++ y) new.2 ∙ sym (append_assoc before (new.0 ∷ []) new.1)) earlier),
+    )
   ]
 
   pub placed_appended : (before b : List Signal) (here : List ℕ) (added : List Signal) (s x : Signal) (p : ℕ)
@@ -42,8 +49,14 @@ module _ (w : List ℕ) (a : List Signal) where
     | inl old ↦ inl (old.0, placed_appended before b here added s x p old.1 is appended)
     | inr new ↦
         let same : before ++ added ≡ (before ++ new.0 ∷ []) ++ new.1 = ap (λ z. before ++ z) new.2 ∙ sym (append_assoc before (new.0 ∷ []) new.1) in
-        inr (new.0, new.1 ++ x ∷ [], ap (λ z. z ++ x ∷ []) new.2, new.3, new.4,
-        placed_appended (before ++ new.0 ∷ []) b here new.1 s x p new.5 (is ∙ ap (λ k. length (a ++ k)) same) (subst (λ k. IsAppended w (a ++ k) s x) same appended))
+        inr (
+          new.0,
+          new.1 ++ x ∷ [],
+          ap (λ z. z ++ x ∷ []) new.2,
+          new.3,
+          new.4,
+          placed_appended (before ++ new.0 ∷ []) b here new.1 s x p new.5 (is ∙ ap (λ k. length (a ++ k)) same) (subst (λ k. IsAppended w (a ++ k) s x) same appended),
+        )
   ]
 
   -- as many places as signals
@@ -94,9 +107,13 @@ pub compared_push : (a b : List Signal) (places : List ℕ) (equal : List Signal
 compared_push a [] [] equal s p own more compared long is e = (own, [], e ∙ ap (λ x. x ++ own) compared ∙ sym (append-nil own), is, refl)
 compared_push a [] (q ∷ places) equal s p own more compared long is e = absurd (omega (arith, long))
 compared_push a (x ∷ b) [] equal s p own more compared long is e = absurd compared
-compared_push a (x ∷ b) (q ∷ places) equal s p own more compared long is e =
-    (compared.0, compared.1 ++ own, e ∙ ap (λ y. y ++ own) compared.2 ∙ append_assoc compared.0 compared.1 own, compared.3,
-    compared_push a b places compared.1 s p own (compared.1 ++ own) compared.4 (omega (arith, long)) is refl)
+compared_push a (x ∷ b) (q ∷ places) equal s p own more compared long is e = (
+  compared.0,
+  compared.1 ++ own,
+  e ∙ ap (λ y. y ++ own) compared.2 ∙ append_assoc compared.0 compared.1 own,
+  compared.3,
+  compared_push a b places compared.1 s p own (compared.1 ++ own) compared.4 (omega (arith, long)) is refl,
+)
 
 -- a signal that isn't a latch is in no comparison
 pub compared_other : (a b : List Signal) (places : List ℕ) (equal : List Signal) (s : Signal) (p : ℕ) → AreComparisons a b places equal
@@ -268,10 +285,10 @@ module _ (a done : List Signal) (places : List ℕ) (added latches : List Signal
       let end : p ≡ length (a ++ added) = last ∙ is_next in
       joined_appended s (gate_signal g) p more others [] latches given now is is_added end
       (λ w. subst (IsAppended (places ++ p ∷ w) (a ++ map (settled (places ++ p ∷ w)) added) s) (sym (settled_gate (places ++ p ∷ w) g))
-          (gate_new (places ++ p ∷ w) s g (becomes (p ∷ w)) (settled_absent (places ++ p ∷ w) g a added (number_next (a ++ added) g gates p old.gates_right found end))))
+      (gate_new (places ++ p ∷ w) s g (becomes (p ∷ w)) (settled_absent (places ++ p ∷ w) g a added (number_next (a ++ added) g gates p old.gates_right found end))))
       (gate_compared (places ++ []) s g p (becomes [])) (sym (append-nil latches)) (sym (append-nil given) ∙ ap (λ k. given ++ k) (nameless g))
       (subst (λ k. AreGates k now) (append_assoc a added (gate_signal g ∷ []) ∙ ap (λ k. a ++ k) (sym is_added))
-          (AreGates-put (a ++ added) (gate_signal g) g gates now p old.gates_right refl found puts))
+      (AreGates-put (a ++ added) (gate_signal g) g gates now p old.gates_right refl found puts))
       (λ n there. nextless n g)
     where
       nextless : (n : ℕ) (h : Gate) → All (λ y. signal_of y < n) (nexts (gate_signal h))
@@ -295,11 +312,13 @@ module _ (a done : List Signal) (places : List ℕ) (added latches : List Signal
       → names ≡ given ++ new ∷ [] → IsJoined a (done ++ Latch name init next ∷ []) more others equal names gates
   joined_latch name new init image_of_init next p partner more others equal names lower is_image is_new at end is is_added is_equal is_named =
       joined_appended (Latch name init next) (Latch new image_of_init next) p more others (Eqv (2 * partner) (2 * p) ∷ []) equal names gates is is_added end
-      (λ w. (new,
-          subst (λ k. IsNewName k name new) (sym (flat_map-append own_names a (map (settled (places ++ p ∷ w)) added)
-              ∙ ap (λ k. signal_names a ++ k) (settled_names (places ++ p ∷ w) added ∙ sym old.given_right))) is_new,
-          ap (λ k. Latch new k (image (places ++ p ∷ w) next)) (is_image ∙ sym (image_more places (p ∷ w) init lower))))
+      (λ w. (
+        new,
+        subst (λ k. IsNewName k name new) (sym (flat_map-append own_names a (map (settled (places ++ p ∷ w)) added)
+            ∙ ap (λ k. signal_names a ++ k) (settled_names (places ++ p ∷ w) added ∙ sym old.given_right))) is_new,
+        ap (λ k. Latch new k (image (places ++ p ∷ w) next)) (is_image ∙ sym (image_more places (p ∷ w) init lower)),
+      ))
       (partner, at, refl) is_equal is_named
       (subst (λ k. AreGates k gates) (append_assoc a added (Latch new image_of_init next ∷ []) ∙ ap (λ k. a ++ k) (sym is_added))
-          (AreGates-other (a ++ added) (Latch new image_of_init next) gates old.gates_right (no_gate new image_of_init next)))
+      (AreGates-other (a ++ added) (Latch new image_of_init next) gates old.gates_right (no_gate new image_of_init next)))
       (λ n there. there)

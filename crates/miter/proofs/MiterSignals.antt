@@ -1,17 +1,17 @@
 -- The signals of a miter meet what a model keeps.
-use Rattle.std.proofs.Common.{◌≡◌, ℕ, zero, suc, ◌+◌, ◌*◌, ◌/◌, ◌%◌, ◌<◌, ◌≤◌, ◌^◌, ◌==◌, false, List, [], ◌∷◌, ◌++◌, ◌⊎◌, inl, inr, Some, length, All, slice_get, get_or, Contains, refl, sym, ap, subst, ◌∙◌, append_assoc, length-append, arith}
+use Rattle.std.proofs.Common.{◌≡◌, ℕ, zero, suc, ◌+◌, ◌*◌, ◌/◌, ◌%◌, ◌<◌, ◌≤◌, ◌^◌, ◌==◌, false, List, [], ◌∷◌, ◌++◌, inl, inr, Some, length, All, slice_get, get_or, Contains, refl, sym, ap, subst, ◌∙◌, append_assoc, length-append, arith}
 use Rattle.std.proofs.lemmas.List.{append-nil}
 use Rattle.std.proofs.lemmas.Bool.Decides.{nat_tests}
 use Rattle.std.proofs.lemmas.List.Elements.{All-nil, All-cons, All-head, All-tail, All-push, All-append, All-weaker, All-get_or, All-contains}
 use Rattle.std.proofs.lemmas.Option.{slice_get_within, slice_get-get_or}
 use Rattle.lll_core.specs.declared.signal.Signal.{Signal}
 use Rattle.lll_core.specs.declared.signal.Signal.TheVariants.{One, Input, Latch, Imp, Eqv}
-use Rattle.lll_core.specs.Signals.{signal_of, is_one, is_latch, operands, nexts, own_names, signal_names, NamesSignal, IsName, AreSignals}
+use Rattle.lll_core.specs.Signals.{signal_of, operands, nexts, own_names, signal_names, NamesSignal, IsName, AreSignals}
 use Rattle.lll_core.specs.Tables.{latch_count}
 use Rattle.lll_core.specs.Building.{AreSoFar, MayFollow}
 use Rattle.lll_core.proofs.ListLemmas.{Contains-at}
 use Rattle.lll_core.proofs.SignalLemmas.{AreSoFar-push, AreSoFar-signals, AreSignals-whole}
-use Rattle.miter.specs.Miters.{image, marked, IsNewName, IsEarlier, IsAppended, ArePlaced, IsComparison, AreComparisons, comparisons}
+use Rattle.miter.specs.Miters.{image, marked, IsAppended, ArePlaced, IsComparison, AreComparisons, comparisons}
 use Rattle.miter.specs.Joining.{HaveNexts}
 use Rattle.miter.proofs.JoiningLemmas.{image_more, earlier_within, placed_within}
 
@@ -105,7 +105,7 @@ module _ (w : List ℕ) (a : List Signal) where
   placed_sofar past (p ∷ here) before (s ∷ b) added is all some sofar lower named room placed =
       let is_next : w ≡ (past ++ p ∷ []) ++ here = is ∙ sym (append_assoc past (p ∷ []) here) in
       let lower_next = λ (n : ℕ) (t : Signal) (at : slice_get b n ≡ Some t). All-weaker (λ x. signal_of x < length past + suc n) (λ x. signal_of x < length (past ++ p ∷ []) + n)
-          (λ x lt. omega (arith, lt, length-append past (p ∷ []))) (operands t) (lower (suc n) t at) in
+      (λ x lt. omega (arith, lt, length-append past (p ∷ []))) (operands t) (lower (suc n) t at) in
       let others = All-right IsName (own_names s) (signal_names b) named in
       elim placed [
         | inl old ↦ placed_sofar (past ++ p ∷ []) here before b added is_next (All-push (λ q. q < length (a ++ before)) past p all (earlier_within w a before s p some old.0)) some sofar lower_next others
@@ -117,9 +117,9 @@ module _ (w : List ℕ) (a : List Signal) where
             (All-push (λ q. q < length (a ++ (before ++ new.0 ∷ []))) past p (All-weaker (λ q. q < length (a ++ before)) (λ q. q < length (a ++ (before ++ new.0 ∷ []))) (λ q lt. omega (arith, lt, longer)) past all) (omega (arith, new.3, longer)))
             some
             (subst AreSoFar (append_assoc a before (new.0 ∷ [])) (AreSoFar-push (a ++ before) new.0 sofar
-                (follows past (p ∷ here) (a ++ before) s new.0 is all (omega (arith, some, length-append a before)) (omega (arith, room))
-                (All-weaker (λ x. signal_of x < length past + 0) (λ x. signal_of x < length past) (λ x lt. omega (arith, lt)) (operands s) (lower 0 s refl))
-                (All-left IsName (own_names s) (signal_names b) named) new.4)))
+            (follows past (p ∷ here) (a ++ before) s new.0 is all (omega (arith, some, length-append a before)) (omega (arith, room))
+            (All-weaker (λ x. signal_of x < length past + 0) (λ x. signal_of x < length past) (λ x lt. omega (arith, lt)) (operands s) (lower 0 s refl))
+            (All-left IsName (own_names s) (signal_names b) named) new.4)))
             lower_next others (omega (arith, room, longer)) new.5)
       ]
 
@@ -221,21 +221,21 @@ miter_signals w a b added latches roots of_a of_b long few placed compared equal
     let long_1 = length-append base latches in
     let long_2 = length-append (base ++ latches) roots in
     let sofar : AreSoFar base = placed_sofar w a [] w [] b added refl (All-nil (λ p. p < length (a ++ []))) of_a.some (subst AreSoFar (sym (append-nil a)) (AreSoFar-signals a of_a))
-        (λ k s at. All-weaker (λ x. signal_of x < k) (λ x. signal_of x < length {A = ℕ} [] + k) (λ x lt. omega (arith, lt)) (operands s) (of_b.lower k s at))
-        of_b.named (omega (arith, few, ap length (append-nil a))) placed in
+    (λ k s at. All-weaker (λ x. signal_of x < k) (λ x. signal_of x < length {A = ℕ} [] + k) (λ x lt. omega (arith, lt)) (operands s) (of_b.lower k s at))
+    of_b.named (omega (arith, few, ap length (append-nil a))) placed in
     let nexts_of_a : HaveNexts (length whole) a = All-from (λ s. All (λ x. signal_of x < length whole) (nexts s)) a
-        (λ k s at. All-weaker (NamesSignal a) (λ x. signal_of x < length whole) (λ x lt. omega (arith, lt, long_a, long_1, long_2)) (nexts s) (of_a.next k s at)) in
+    (λ k s at. All-weaker (NamesSignal a) (λ x. signal_of x < length whole) (λ x lt. omega (arith, lt, long_a, long_1, long_2)) (nexts s) (of_a.next k s at)) in
     let nexts_of_b : HaveNexts (length w) b = All-from (λ s. All (λ x. signal_of x < length w) (nexts s)) b
-        (λ k s at. subst (λ m. All (λ x. signal_of x < m) (nexts s)) (sym long) (of_b.next k s at)) in
+    (λ k s at. subst (λ m. All (λ x. signal_of x < m) (nexts s)) (sym long) (of_b.next k s at)) in
     let nexts_added : HaveNexts (length whole) added = placed_nexts w a (length whole)
-        (All-weaker (λ p. p < n) (λ p. p < length whole) (λ p lt. omega (arith, lt, long_1, long_2)) w below) [] b added w nexts_of_b placed in
+    (All-weaker (λ p. p < n) (λ p. p < length whole) (λ p lt. omega (arith, lt, long_1, long_2)) w below) [] b added w nexts_of_b placed in
     let P = λ (s : Signal). All (λ x. signal_of x < length whole) (nexts s) in
     let all : All P whole = All-append P (base ++ latches) roots
-        (All-append P base latches (All-append P a added nexts_of_a nexts_added) (equal_nexts n (length whole) latches latches_below))
-        (equal_nexts n (length whole) roots equal) in
+    (All-append P base latches (All-append P a added nexts_of_a nexts_added) (equal_nexts n (length whole) latches latches_below))
+    (equal_nexts n (length whole) roots equal) in
     AreSignals-whole whole
     (equal_sofar n (base ++ latches) roots
-        (equal_sofar n base latches sofar some (omega arith) latches_below (omega (arith, room, long_1, long_2)))
-        some (omega (arith, long_1)) equal (omega (arith, room, long_2)))
+    (equal_sofar n base latches sofar some (omega arith) latches_below (omega (arith, room, long_1, long_2)))
+    some (omega (arith, long_1)) equal (omega (arith, room, long_2)))
     (omega (arith, some, long_1, long_2))
     (λ k s at. All-at P whole k s all at)

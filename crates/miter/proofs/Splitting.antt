@@ -1,9 +1,8 @@
 -- A table of a miter is a table of a beside one of b.
-use Rattle.std.proofs.Common.{◌≡◌, ℕ, zero, suc, ◌+◌, ◌*◌, ◌/◌, ◌%◌, ◌<◌, ◌≤◌, ◌==◌, Bool, true, false, not, ◌||◌, List, [], ◌∷◌, ◌++◌, ◌⊎◌, inl, inr, Some, length, map, take, All, slice_get, get_or, refl, sym, ap, subst, ◌∙◌, append_assoc, length-append, if◌then◌else◌, arith}
-use Rattle.std.proofs.lemmas.List.{get_or-take, get_or-map, length-take-le, length-map, append-nil}
+use Rattle.std.proofs.Common.{◌≡◌, ℕ, zero, suc, ◌+◌, ◌%◌, ◌<◌, ◌==◌, Bool, false, not, ◌||◌, List, [], ◌∷◌, ◌++◌, inl, inr, Some, length, map, take, All, slice_get, get_or, sym, ap, subst, ◌∙◌, append_assoc, length-append, if◌then◌else◌, arith}
+use Rattle.std.proofs.lemmas.List.{get_or-take, get_or-map, length-take-le, length-map}
 use Rattle.std.proofs.lemmas.List.Elements.{All-head, All-tail, All-weaker}
-use Rattle.std.proofs.lemmas.Option.{none-some, same_Some, slice_get_within, slice_get-get_or, get_or_from_slice_get}
-use Rattle.lll_core.specs.declared.lll.Lll.{Lll}
+use Rattle.std.proofs.lemmas.Option.{none-some, same_Some, slice_get_within}
 use Rattle.lll_core.specs.declared.signal.Signal.{Signal}
 use Rattle.lll_core.specs.declared.signal.Signal.TheVariants.{One, Input, Latch, Imp, Eqv}
 use Rattle.lll_core.specs.Signals.{signal_of, is_negated, operands, nexts, AreSignals}
@@ -11,9 +10,7 @@ use Rattle.lll_core.specs.Tables.{Instant, Table, signal_value, value, are_equal
 use Rattle.lll_core.proofs.BuildingLemmas.{true_holds}
 use Rattle.lll_core.proofs.ListLemmas.{slice_get-append, slice_get-last, slice_get-map_back}
 use Rattle.lll_core.proofs.RowLemmas.{value-same}
-use Rattle.miter.specs.Pairs.{IsInputAt}
-use Rattle.miter.specs.Miters.{image, IsFirst, IsEarlier, IsAppended, ArePlaced}
-use Rattle.miter.proofs.SignalNames.{one_place}
+use Rattle.miter.specs.Miters.{image, IsEarlier, IsAppended, ArePlaced}
 use Rattle.miter.proofs.MiterSignals.{image_signal}
 
 -- ---- the first signals
@@ -28,10 +25,10 @@ module _ (k : ℕ) where
   front_now now (Latch name init next) v lower holds = holds
   front_now now (Imp x y) v lower holds =
       holds ∙ sym (ap (λ p. not p || value (take k now) y) (front_value now x (All-head (λ z. signal_of z < k) x (y ∷ []) lower))
-          ∙ ap (λ q. not (value now x) || q) (front_value now y (All-head (λ z. signal_of z < k) y [] (All-tail (λ z. signal_of z < k) x (y ∷ []) lower))))
+      ∙ ap (λ q. not (value now x) || q) (front_value now y (All-head (λ z. signal_of z < k) y [] (All-tail (λ z. signal_of z < k) x (y ∷ []) lower))))
   front_now now (Eqv x y) v lower holds =
       holds ∙ sym (ap (λ p. are_equal p (value (take k now) y)) (front_value now x (All-head (λ z. signal_of z < k) x (y ∷ []) lower))
-          ∙ ap (are_equal (value now x)) (front_value now y (All-head (λ z. signal_of z < k) y [] (All-tail (λ z. signal_of z < k) x (y ∷ []) lower))))
+      ∙ ap (are_equal (value now x)) (front_value now y (All-head (λ z. signal_of z < k) y [] (All-tail (λ z. signal_of z < k) x (y ∷ []) lower))))
 
   front_start : (now : Instant) (s : Signal) (v : Bool) → All (λ x. signal_of x < k) (operands s) → HoldsAtStart now s v → HoldsAtStart (take k now) s v
   front_start now One v lower holds = holds

@@ -1,5 +1,5 @@
 -- The whole miter, once each signal of b has its place.
-use Rattle.std.proofs.Common.{◌≡◌, ℕ, zero, suc, ◌+◌, ◌<◌, ◌≤◌, ◌^◌, List, [], ◌∷◌, ◌++◌, length, map, All, refl, sym, ap, subst, ◌∙◌, length-append, arith}
+use Rattle.std.proofs.Common.{◌≡◌, ℕ, ◌+◌, ◌<◌, ◌≤◌, ◌^◌, List, [], ◌∷◌, ◌++◌, length, map, All, sym, ap, subst, ◌∙◌, length-append, arith}
 use Rattle.std.proofs.lemmas.List.{append-nil, length-map}
 use Rattle.std.proofs.lemmas.List.Elements.{All-append, All-cons, All-nil, All-weaker, All-same}
 use Rattle.lll_core.specs.declared.lll.Lll.{Lll}
@@ -60,8 +60,15 @@ module _ (a b : Lll) (places : List ℕ) (added latches : List Signal) (given : 
     module _ (constraints : length a.constraints ≡ length b.constraints) (obligations : length a.obligations ≡ length b.obligations) (roots : List Signal)
         (are_roots : roots ≡ comparisons places a.constraints b.constraints ++ comparisons places a.obligations b.obligations) where
       pub whole_roots : length roots ≡ length b.constraints + length b.obligations
-      whole_roots = omega (arith, ap length are_roots, length-append (comparisons places a.constraints b.constraints) (comparisons places a.obligations b.obligations),
-          comparisons_long places a.constraints b.constraints constraints, comparisons_long places a.obligations b.obligations obligations, constraints, obligations)
+      whole_roots = omega (
+        arith,
+        ap length are_roots,
+        length-append (comparisons places a.constraints b.constraints) (comparisons places a.obligations b.obligations),
+        comparisons_long places a.constraints b.constraints constraints,
+        comparisons_long places a.obligations b.obligations obligations,
+        constraints,
+        obligations,
+      )
 
       pub whole_room : length a.signals + length added + length latches + length roots < 2 ^ 31
       whole_room = omega (arith, whole_few, whole_latches, whole_roots, few)
@@ -82,11 +89,11 @@ module _ (a b : Lll) (places : List ℕ) (added latches : List Signal) (given : 
       roots_below = All-same (IsEqvBelow (length base)) roots (comparisons places a.constraints b.constraints ++ comparisons places a.obligations b.obligations) are_roots
           (All-append (IsEqvBelow (length base)) (comparisons places a.constraints b.constraints) (comparisons places a.obligations b.obligations)
           (comparisons_below (length base) places a.constraints b.constraints
-              (All-weaker (NamesSignal a.signals) (λ x. signal_of x < length base) (λ x lt. below_base (signal_of x) lt) a.constraints a.is_lll.constraints_there)
-              (subst (λ m. All (λ x. signal_of x < m) b.constraints) (sym whole_long) b.is_lll.constraints_there) whole_below)
+          (All-weaker (NamesSignal a.signals) (λ x. signal_of x < length base) (λ x lt. below_base (signal_of x) lt) a.constraints a.is_lll.constraints_there)
+          (subst (λ m. All (λ x. signal_of x < m) b.constraints) (sym whole_long) b.is_lll.constraints_there) whole_below)
           (comparisons_below (length base) places a.obligations b.obligations
-              (All-weaker (NamesSignal a.signals) (λ x. signal_of x < length base) (λ x lt. below_base (signal_of x) lt) a.obligations a.is_lll.obligations_there)
-              (subst (λ m. All (λ x. signal_of x < m) b.obligations) (sym whole_long) b.is_lll.obligations_there) whole_below))
+          (All-weaker (NamesSignal a.signals) (λ x. signal_of x < length base) (λ x lt. below_base (signal_of x) lt) a.obligations a.is_lll.obligations_there)
+          (subst (λ m. All (λ x. signal_of x < m) b.obligations) (sym whole_long) b.is_lll.obligations_there) whole_below))
 
       pub all_are_signals : AreSignals all_signals
       all_are_signals = miter_signals places a.signals b.signals (map (settled places) added) latches roots a.is_lll.are_signals b.is_lll.are_signals whole_long
@@ -121,8 +128,13 @@ module _ (a b : Lll) (places : List ℕ) (added latches : List Signal) (given : 
                 (All-cons P (image places b.keep) (a.assume ∷ last) (image_there b.keep b.is_lll.keep_there)
                 (All-cons P a.assume last (omega (arith, below_base (signal_of a.assume) a.is_lll.assume_there, all_long))
                 (literals_below (length (base ++ latches)) (length roots) (length all_signals) (omega (arith, all_long, length-append base latches))))));
-            few = omega (arith, length-append first (a.keep ∷ image places b.keep ∷ a.assume ∷ last), literals_long (length base) (length latches),
-                literals_long (length (base ++ latches)) (length roots), whole_room);
+            few = omega (
+              arith,
+              length-append first (a.keep ∷ image places b.keep ∷ a.assume ∷ last),
+              literals_long (length base) (length latches),
+              literals_long (length (base ++ latches)) (length roots),
+              whole_room,
+            );
           }
 
       -- ---- from what the code made
@@ -161,15 +173,21 @@ module _ (a b : Lll) (places : List ℕ) (added latches : List Signal) (given : 
 
       pub miter_made : (m : MiterLll) → m.lll.signals ≡ all_signals → m.lll.assume ≡ image places b.assume → m.lll.keep ≡ 0 → m.lll.constraints ≡ [] → m.lll.obligations ≡ []
           → m.lll.names ≡ [] → m.parts ≡ all_parts → IsMiter a b m
-      miter_made m e f g h i j k = (places, map (settled places) added, latches, roots, record {
-        placed = whole_placed;
-        compared = joined.compared;
-        roots_right = are_roots;
-        signals = e;
-        assume = f;
-        keep = g;
-        constraints = h;
-        obligations = i;
-        names = j;
-        parts = k;
-      })
+      miter_made m e f g h i j k = (
+        places,
+        map (settled places) added,
+        latches,
+        roots,
+        record {
+          placed = whole_placed;
+          compared = joined.compared;
+          roots_right = are_roots;
+          signals = e;
+          assume = f;
+          keep = g;
+          constraints = h;
+          obligations = i;
+          names = j;
+          parts = k;
+        },
+      )

@@ -1,11 +1,10 @@
 -- What a miter means: its tables are a table of a beside one of b, and its parts are true where the two agree.
-use Rattle.std.specs.Prelude.{◌≡◌, ℕ, Bool, true, List, length, map, All, Some, slice_get}
+use Rattle.std.specs.Prelude.{◌≡◌, ℕ, true, List, length, map, All, Some, slice_get}
 use Rattle.lll_core.specs.declared.lll.Lll.{Lll}
 use Rattle.lll_core.specs.declared.signal.Signal.{Signal}
-use Rattle.lll_core.specs.Tables.{Instant, Table, signal_value, value, IsRun, IsWindow}
+use Rattle.lll_core.specs.Tables.{Instant, Table, signal_value, value}
 use Rattle.miter.specs.declared.parts.MiterLll.{MiterLll}
 use Rattle.miter.specs.Pairs.{IsInputAt, IsLatchAt}
-use Rattle.miter.specs.Miters.{IsMiter}
 
 -- an instant of a and one of b have the same values of inputs of one name
 abbrev pub ShareInputs : Lll → Lll → Instant → Instant → Type 0

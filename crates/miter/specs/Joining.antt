@@ -1,5 +1,5 @@
 -- Words for the contracts of private parts: what is known while the signals of b are put to those of a.
-use Rattle.std.specs.Prelude.{◌≡◌, ℕ, Bool, ◌||◌, is_some, ◌<◌, List, [], ◌∷◌, ◌++◌, Option, None, Some, MatchOption, length, map, All, Contains, slice_get}
+use Rattle.std.specs.Prelude.{◌≡◌, ℕ, Bool, ◌||◌, is_some, ◌<◌, List, [], ◌∷◌, ◌++◌, Option, Some, MatchOption, map, All, Contains, slice_get}
 use Rattle.lll_core.specs.declared.signal.Signal.{Signal}
 use Rattle.lll_core.specs.declared.signal.Signal.TheVariants.{One, Input, Latch, Imp, Eqv}
 use Rattle.lll_core.specs.Signals.{signal_of, nexts, own_names, signal_names}

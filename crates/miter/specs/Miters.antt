@@ -1,5 +1,5 @@
 -- The miter of two models a and b. A list of places says where each signal of b stands in it.
-use Rattle.std.specs.Prelude.{◌≡◌, ℕ, zero, suc, ◌+◌, ◌*◌, ◌%◌, ◌<◌, List, [], ◌∷◌, ◌++◌, ◌⊎◌, length, All, Contains, Some, slice_get, slice_index_or}
+use Rattle.std.specs.Prelude.{◌≡◌, ℕ, zero, suc, ◌+◌, ◌*◌, ◌%◌, ◌<◌, List, [], ◌∷◌, ◌++◌, ◌⊎◌, length, Contains, Some, slice_get, slice_index_or}
 use Rattle.lll_core.specs.declared.lll.Lll.{Lll}
 use Rattle.lll_core.specs.declared.signal.Signal.{Signal}
 use Rattle.lll_core.specs.declared.signal.Signal.TheVariants.{One, Input, Latch, Imp, Eqv}
@@ -57,7 +57,7 @@ ArePlaced places a before (s ∷ b) [] added = ⊥
 ArePlaced places a before (s ∷ b) (place ∷ here) added =
     (IsEarlier places a before s place × ArePlaced places a before b here added)
     ⊎ ((new : Signal) × (more : List Signal) × (added ≡ new ∷ more) × (place ≡ length (a ++ before))
-        × IsAppended places (a ++ before) s new × ArePlaced places a (before ++ new ∷ []) b here more)
+    × IsAppended places (a ++ before) s new × ArePlaced places a (before ++ new ∷ []) b here more)
 
 -- ---- comparisons
 

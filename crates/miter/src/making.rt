@@ -90,8 +90,18 @@ fn roots(alloc: Global, a: &Lll, b: &Lll, places: &[u32]) -> Result<Vec<Signal>,
         ++ comparisons places.now a.now.obligations b.now.obligations) }
 {
     let mut roots = Vec::new(alloc);
-    push_comparisons(&mut roots, places, a.constraints.as_slice(), b.constraints.as_slice())?;
-    push_comparisons(&mut roots, places, a.obligations.as_slice(), b.obligations.as_slice())?;
+    push_comparisons(
+        &mut roots,
+        places,
+        a.constraints.as_slice(),
+        b.constraints.as_slice(),
+    )?;
+    push_comparisons(
+        &mut roots,
+        places,
+        a.obligations.as_slice(),
+        b.obligations.as_slice(),
+    )?;
     Ok(roots)
 }
 
@@ -143,7 +153,14 @@ fn whole(
     let first = (a.signals.len() + added.len()) as u32;
     let keep = image(&places, b.keep);
     let assume = image(&places, b.assume);
-    let parts = parts(alloc, a, keep, first, latches.len() as u32, roots.len() as u32)?;
+    let parts = parts(
+        alloc,
+        a,
+        keep,
+        first,
+        latches.len() as u32,
+        roots.len() as u32,
+    )?;
     let mut signals = copies(alloc, a.signals.as_slice())?;
     push_settled(&mut signals, &places, added)?;
     signals.append(&mut latches)?;

@@ -1,7 +1,7 @@
 use Rattle.std.proofs.Common.{◌≡◌, ◌+◌, ◌++◌, ◌∷◌, [], ◌∙◌, take, get_or, length, ap, sym, arith, append_assoc}
 use Rattle.std.proofs.lemmas.List.{take_more, length-take-le}
 use Rattle.lll_core.specs.declared.signal.Signal.TheVariants.{Eqv}
-use Rattle.miter.specs.Miters.{comparisons, image}
+use Rattle.miter.specs.Miters.{comparisons}
 use Rattle.miter.proofs.CompareLemmas.{comparisons_push}
 use Rattle.miter.proofs.comparing.push_comparisons.Goals as goal
 
@@ -16,5 +16,5 @@ loop-number-preserved c =
     c.in_ok-push.ensures.items ∙ ap (λ k. k ++ Eqv (get_or a n 0) c.image.result ∷ []) c.loop-number.invariant
     ∙ append_assoc c.args.signals.now.items (comparisons c.args.places.now (take n a) (take n b)) (Eqv (get_or a n 0) c.image.result ∷ [])
     ∙ ap (λ k. c.args.signals.now.items ++ k) (ap (λ k. comparisons c.args.places.now (take n a) (take n b) ++ Eqv (get_or a n 0) k ∷ []) c.image.ensures
-        ∙ sym (comparisons_push c.args.places.now (take n a) (take n b) (get_or a n 0) (get_or b n 0) long)
-        ∙ ap (λ k. comparisons c.args.places.now k (take n b ++ get_or b n 0 ∷ [])) (sym of_a) ∙ ap (comparisons c.args.places.now (take (n + 1) a)) (sym of_b))
+    ∙ sym (comparisons_push c.args.places.now (take n a) (take n b) (get_or a n 0) (get_or b n 0) long)
+    ∙ ap (λ k. comparisons c.args.places.now k (take n b ++ get_or b n 0 ∷ [])) (sym of_a) ∙ ap (comparisons c.args.places.now (take (n + 1) a)) (sym of_b))

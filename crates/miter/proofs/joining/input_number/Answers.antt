@@ -1,4 +1,4 @@
-use Rattle.std.proofs.Common.{◌≡◌, ◌<◌, Some, slice_get, length, sym, ◌∙◌, arith, refl}
+use Rattle.std.proofs.Common.{length, sym, refl}
 use Rattle.std.proofs.lemmas.Option.{slice_get_read, slice_get_within}
 use Rattle.miter.proofs.Partners.{no_input, not_input, named_at}
 use Rattle.miter.proofs.joining.input_number.Goals as goal

@@ -1,7 +1,7 @@
-use Rattle.std.proofs.Common.{◌≡◌, ◌+◌, ◌-◌, ◌<◌, ◌≤◌, ◌∷◌, ◌∙◌, true, false, length, ap, sym, arith}
+use Rattle.std.proofs.Common.{◌≡◌, ◌+◌, ◌∷◌, ◌∙◌, true, false, length, ap, sym, arith}
 use Rattle.miter.specs.Miters.{marked}
 use Rattle.miter.specs.Joining.{is_taken}
-use Rattle.miter.proofs.NewNames.{next_candidate, new_candidate, free_given, taken_short, all_bytes, all_number_bytes}
+use Rattle.miter.proofs.NewNames.{next_candidate, new_candidate, free_given, taken_short}
 use Rattle.miter.proofs.names.new_name.Goals as goal
 
 taken : (c : goal.After-drop-new-in-loop-alloc) → is_taken c.args.numbers.now c.args.given.now c.loop-alloc.new.items ≡ true

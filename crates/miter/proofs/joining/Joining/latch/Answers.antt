@@ -1,4 +1,4 @@
-use Rattle.std.proofs.Common.{◌≡◌, ◌+◌, ◌<◌, ◌∷◌, ◌++◌, [], ◌∙◌, length, ap, sym, subst, refl, arith, length-append}
+use Rattle.std.proofs.Common.{◌+◌, ◌∷◌, ◌++◌, [], ◌∙◌, length, ap, arith, length-append}
 use Rattle.std.proofs.lemmas.Option.{slice_get_within}
 use Rattle.lll_core.specs.declared.signal.Signal.TheVariants.{Latch}
 use Rattle.miter.specs.Pairs.{IsLatchAt}

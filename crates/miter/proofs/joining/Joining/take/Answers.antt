@@ -1,4 +1,4 @@
-use Rattle.std.proofs.Common.{◌≡◌, ℕ, List, All, ◌<◌, ◌∷◌, ◌++◌, [], ◌∙◌, length, map, ap, sym, subst, refl, arith}
+use Rattle.std.proofs.Common.{◌≡◌, ℕ, List, All, ◌<◌, ◌∷◌, ◌++◌, [], ◌∙◌, length, ap, sym, subst, refl}
 use Rattle.std.proofs.lemmas.List.Elements.{All-head, All-tail}
 use Rattle.lll_core.specs.declared.signal.Signal.{Signal}
 use Rattle.miter.specs.declared.gates.Gate.TheVariants as gate
