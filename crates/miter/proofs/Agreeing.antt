@@ -122,34 +122,34 @@ map_same f g [] all = refl
 map_same f g (x ∷ xs) all = ap (λ v. v ∷ map f xs) (All-head (λ x. f x ≡ g x) x xs all) ∙ ap (λ vs. g x ∷ vs) (map_same f g xs (All-tail (λ x. f x ≡ g x) x xs all))
 
 module _ (a b : Lll) (m : MiterLll) (w : List ℕ) (added latches roots : List Signal) (by : IsMiterBy a b m w added latches roots) (paired : Paired a b) where
-  abbrev of_a : List Signal
+  abbrev pub of_a : List Signal
   of_a = a.signals
 
-  abbrev of_b : List Signal
+  abbrev pub of_b : List Signal
   of_b = b.signals
 
-  abbrev base : List Signal
+  abbrev pub base : List Signal
   base = of_a ++ added
 
-  abbrev all : List Signal
+  abbrev pub all : List Signal
   all = (base ++ latches) ++ roots
 
-  facts : AreSignals all
+  pub facts : AreSignals all
   facts = subst AreSignals by.signals m.lll.is_lll.are_signals
 
-  facts_a : AreSignals of_a
+  pub facts_a : AreSignals of_a
   facts_a = a.is_lll.are_signals
 
-  facts_b : AreSignals of_b
+  pub facts_b : AreSignals of_b
   facts_b = b.is_lll.are_signals
 
-  long : length w ≡ length of_b
+  pub long : length w ≡ length of_b
   long = placed_long w of_a [] of_b w added by.placed
 
   stand : (n : ℕ) (s : Signal) → slice_get of_b n ≡ Some s → StandsAt w all s (get_or w n 0)
   stand n s at = stands_more w (base ++ latches) roots s (get_or w n 0) (stands_more w base latches s (get_or w n 0) (stands w of_a [] of_b w added by.placed n s at))
 
-  whole_front : all ≡ of_a ++ (added ++ (latches ++ roots))
+  pub whole_front : all ≡ of_a ++ (added ++ (latches ++ roots))
   whole_front = append_assoc base latches roots ∙ append_assoc of_a added (latches ++ roots)
 
   abbrev pub part_a : Instant → Instant
@@ -157,6 +157,26 @@ module _ (a b : Lll) (m : MiterLll) (w : List ℕ) (added latches roots : List S
 
   abbrev pub part_b : Instant → Instant
   part_b now = map (signal_value now) w
+
+  pub some_base : length of_a ≤ length base
+  some_base = omega (arith, length-append of_a added)
+
+  pub places_below : All (λ p. p < length base) w
+  places_below = placed_within w of_a [] of_b w added facts_a.some by.placed
+
+  pub roots_are : All (IsEqvBelow (length base)) roots
+  roots_are = All-same (IsEqvBelow (length base)) roots (comparisons w a.constraints b.constraints ++ comparisons w a.obligations b.obligations) by.roots_right
+      (All-append (IsEqvBelow (length base)) (comparisons w a.constraints b.constraints) (comparisons w a.obligations b.obligations)
+      (pairs a.constraints b.constraints a.is_lll.constraints_there b.is_lll.constraints_there)
+      (pairs a.obligations b.obligations a.is_lll.obligations_there b.is_lll.obligations_there))
+    where
+      pairs : (xs ys : List ℕ) → All (NamesSignal of_a) xs → All (NamesSignal of_b) ys → All (IsEqvBelow (length base)) (comparisons w xs ys)
+      pairs xs ys xs_there ys_there = comparisons_below (length base) w xs ys
+          (All-weaker (NamesSignal of_a) (λ x. signal_of x < length base) (λ x lt. omega (arith, lt, some_base)) xs xs_there)
+          (subst (λ n. All (λ y. signal_of y < n) ys) (sym long) ys_there) places_below
+
+  pub latches_are : All (IsEqvBelow (length base)) latches
+  latches_are = compared_below (length base) of_a of_b w latches some_base places_below by.compared
 
   module _ (now : Instant) (gates : GatesHold all now) where
     a_values : (xs : List ℕ) → All (NamesSignal of_a) xs → map (value (part_a now)) xs ≡ map (value now) xs
@@ -175,23 +195,6 @@ module _ (a b : Lll) (m : MiterLll) (w : List ℕ) (added latches roots : List S
 
     b_signal : (n : ℕ) → n < length of_b → signal_value (part_b now) n ≡ signal_value now (get_or w n 0)
     b_signal n lt = seen_signal w all of_b facts facts_b long stand now n lt
-
-    some_base : length of_a ≤ length base
-    some_base = omega (arith, length-append of_a added)
-
-    places_below : All (λ p. p < length base) w
-    places_below = placed_within w of_a [] of_b w added facts_a.some by.placed
-
-    roots_are : All (IsEqvBelow (length base)) roots
-    roots_are = All-same (IsEqvBelow (length base)) roots (comparisons w a.constraints b.constraints ++ comparisons w a.obligations b.obligations) by.roots_right
-        (All-append (IsEqvBelow (length base)) (comparisons w a.constraints b.constraints) (comparisons w a.obligations b.obligations)
-        (pairs a.constraints b.constraints a.is_lll.constraints_there b.is_lll.constraints_there)
-        (pairs a.obligations b.obligations a.is_lll.obligations_there b.is_lll.obligations_there))
-      where
-        pairs : (xs ys : List ℕ) → All (NamesSignal of_a) xs → All (NamesSignal of_b) ys → All (IsEqvBelow (length base)) (comparisons w xs ys)
-        pairs xs ys xs_there ys_there = comparisons_below (length base) w xs ys
-            (All-weaker (NamesSignal of_a) (λ x. signal_of x < length base) (λ x lt. omega (arith, lt, some_base)) xs xs_there)
-            (subst (λ n. All (λ y. signal_of y < n) ys) (sym long) ys_there) places_below
 
     pub inputs_shared : ShareInputs a b (part_a now) (part_b now)
     inputs_shared name i j at_i at_j =

@@ -1,4 +1,5 @@
 pub mod Agreeing
+pub mod Combining
 pub mod CompareLemmas
 pub mod Indexes
 pub mod JoiningLemmas

@@ -43,3 +43,9 @@ pub record AreBoth (a b : Lll) (m : MiterLll) (g of_a of_b : Table) : Type 0 whe
 abbrev pub Splits : (List Signal → Table → Type 0) → Lll → Lll → MiterLll → Type 0
 Splits IsTable a b m = (g : Table) → IsTable m.lll.signals g
     → (of_a : Table) × (of_b : Table) × IsTable a.signals of_a × IsTable b.signals of_b × AreBoth a b m g of_a of_b
+
+-- such a table of a and one of b that have the same inputs by name, instant by instant, are one of the miter at once
+abbrev pub Joins : (List Signal → Table → Type 0) → Lll → Lll → MiterLll → Type 0
+Joins IsTable a b m = (of_a of_b : Table) → IsTable a.signals of_a → IsTable b.signals of_b → length of_a ≡ length of_b
+    → ((t : ℕ) (x y : Instant) → slice_get of_a t ≡ Some x → slice_get of_b t ≡ Some y → ShareInputs a b x y)
+    → (g : Table) × IsTable m.lll.signals g × AreBoth a b m g of_a of_b

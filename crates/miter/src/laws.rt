@@ -6,7 +6,7 @@ ghost use Rattle.lll_core.specs.Tables.{IsRun, IsWindow};
 ghost use Rattle.miter.specs.declared.parts.MiterLll.{MiterLll};
 ghost use Rattle.miter.specs.Pairs.{Paired, IsUnpaired};
 ghost use Rattle.miter.specs.Miters.{IsMiter};
-ghost use Rattle.miter.specs.Agreement.{Splits};
+ghost use Rattle.miter.specs.Agreement.{Joins, Splits};
 
 /// Where something prevents a miter, the models aren't paired.
 pub fn paired_or_unpaired()
@@ -17,4 +17,10 @@ pub fn paired_or_unpaired()
 pub fn miter_splits()
     ensures run { (a b : Lll) (m : MiterLll) → Paired a b → IsMiter a b m → Splits IsRun a b m }
     ensures window { (a b : Lll) (m : MiterLll) → Paired a b → IsMiter a b m → Splits IsWindow a b m }
+{}
+
+/// A run of a and one of b with the same inputs are a run of a miter at once, and so are windows.
+pub fn miter_joins()
+    ensures run { (a b : Lll) (m : MiterLll) → Paired a b → IsMiter a b m → Joins IsRun a b m }
+    ensures window { (a b : Lll) (m : MiterLll) → Paired a b → IsMiter a b m → Joins IsWindow a b m }
 {}
