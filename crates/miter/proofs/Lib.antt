@@ -6,6 +6,7 @@ pub mod JoiningLemmas
 pub mod MiterSignals
 pub mod NameLemmas
 pub mod NewNames
+pub mod OneMiter
 pub mod Partners
 pub mod SignalNames
 pub mod Splitting

@@ -108,3 +108,13 @@ pub record IsMiterBy (a b : Lll) (m : MiterLll) (places : List ℕ) (added latch
 abbrev pub IsMiter : Lll → Lll → MiterLll → Type 0
 IsMiter a b m = (places : List ℕ) × (added : List Signal) × (latches : List Signal) × (roots : List Signal)
     × IsMiterBy a b m places added latches roots
+
+-- two models with parts are the same
+pub record AreSame (m n : MiterLll) : Type 0 where
+  pub signals : m.lll.signals ≡ n.lll.signals
+  pub assume : m.lll.assume ≡ n.lll.assume
+  pub keep : m.lll.keep ≡ n.lll.keep
+  pub constraints : m.lll.constraints ≡ n.lll.constraints
+  pub obligations : m.lll.obligations ≡ n.lll.obligations
+  pub names : m.lll.names ≡ n.lll.names
+  pub parts : m.parts ≡ n.parts

@@ -13,6 +13,6 @@ mod parts;
 
 pub use counting::size;
 pub use fault::MiterFault;
-pub use laws::{miter_joins, miter_splits, paired_or_unpaired};
+pub use laws::{miter_joins, miter_splits, one_miter, paired_or_unpaired};
 pub use making::miter;
 pub use parts::MiterLll;
