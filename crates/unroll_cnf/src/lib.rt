@@ -1,0 +1,15 @@
+//! The formulas of bounded runs and of induction steps: a low-level text written out instant by instant, as clauses.
+//!
+//! Where there are `size` signals, the variable of a signal at an instant is `1 + instant * size + signal`.
+//! `specs/Unrollings.antt` says which clauses there are, and `specs/Counterexamples.antt` what their satisfying
+//! assignments show.
+#![tactic(auto)]
+
+mod clauses;
+mod formulas;
+// mod laws;
+mod literal;
+mod signals;
+
+pub use formulas::{base, fits, step};
+// pub use laws::{base_is_exact, step_is_exact};
