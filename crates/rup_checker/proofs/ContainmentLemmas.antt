@@ -12,7 +12,7 @@ use Rattle.rup_checker.specs.Formulas.{IsLiteral}
 use Rattle.rup_checker.specs.Marks.{LiteralMarks, IsMarked, Marks}
 use Rattle.rup_checker.specs.Logs.{IsNew}
 use Rattle.rup_checker.specs.Occurrences.{Listing, listed, AddsNumber}
-use Rattle.rup_checker.specs.Closing.{clause_at}
+use Rattle.rup_checker.specs.Stores.{clause_at}
 use Rattle.rup_checker.specs.declared.containment.Anchors.{Anchors}
 use Rattle.rup_checker.specs.Containment.{IsCovered, IsAnchored, AreAnchored}
 use Rattle.rup_checker.proofs.PropagationLemmas.{holds_or_not}

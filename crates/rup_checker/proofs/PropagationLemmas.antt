@@ -12,7 +12,8 @@ use Rattle.rup_checker.specs.Steps.{IsAllFalse, IsUnit, Propagates}
 use Rattle.rup_checker.specs.Logs.{IsQuiet, IsOpen, IsComplete}
 use Rattle.rup_checker.specs.Marks.{HasTwoLeft}
 use Rattle.rup_checker.specs.Occurrences.{Listing, listed, ListsAll}
-use Rattle.rup_checker.specs.Closing.{IsRefuted, IsReached, TrailState, waiting, clause_at, IsVisited, IsSettled}
+use Rattle.rup_checker.specs.Closing.{IsRefuted, IsReached, TrailState, waiting, IsVisited, IsSettled}
+use Rattle.rup_checker.specs.Stores.{clause_at}
 
 -- what a test decides holds or doesn't
 pub holds_or_not : {P : Type 0} (b : Bool) → Decides b P → P ⊎ (¬ P)

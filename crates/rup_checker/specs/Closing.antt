@@ -1,7 +1,8 @@
 -- Unit propagation from nothing, to its end.
-use Rattle.std.specs.Prelude.{◌≡◌, ◌≢◌, ◌↔◌, ◌<◌, ◌≤◌, ◌⊎◌, ◌++◌, ◌∷◌, [], ℕ, ℤ, neg_ℤ, Bool, List, length, drop, All, AllPairs, Contains, slice_index_or, MatchBool}
+use Rattle.std.specs.Prelude.{◌≡◌, ◌≢◌, ◌↔◌, ◌<◌, ◌≤◌, ◌⊎◌, ◌++◌, ◌∷◌, [], ℕ, ℤ, neg_ℤ, Bool, List, length, drop, All, AllPairs, Contains, MatchBool}
 use Rattle.rup_checker.specs.Formulas.{IsLiteral}
 use Rattle.rup_checker.specs.Marks.{LiteralMarks, Marks}
+use Rattle.rup_checker.specs.Stores.{clause_at}
 use Rattle.rup_checker.specs.Steps.{IsUnit, Propagates, Refutes}
 use Rattle.rup_checker.specs.Logs.{IsQuiet}
 
@@ -32,10 +33,6 @@ pub record IsTrail (marks : LiteralMarks) (literals : List ℤ) : Type 0 where
 -- the literals that are still to be followed up
 abbrev pub waiting : TrailState → List ℤ
 waiting trail = drop trail.followed trail.taken
-
--- the clause with this number
-abbrev pub clause_at : List (List ℤ) → ℕ → List ℤ
-clause_at clauses n = slice_index_or clauses n []
 
 -- a clause that was looked at leaves all as it is, or makes the negation of its one literal that is left false
 abbrev pub IsVisited : TrailState → TrailState → List ℤ → Type 0

@@ -3,7 +3,7 @@ use Rattle.std.specs.Prelude.{◌≡◌, ◌<◌, ◌⊎◌, ℕ, ℤ, IsTrue, L
 use Rattle.rup_checker.specs.Formulas.{IsLiteral}
 use Rattle.rup_checker.specs.Marks.{LiteralMarks, IsMarked}
 use Rattle.rup_checker.specs.Occurrences.{listed}
-use Rattle.rup_checker.specs.Closing.{clause_at}
+use Rattle.rup_checker.specs.Stores.{clause_at}
 use Rattle.rup_checker.specs.declared.containment.Anchors.{Anchors}
 
 -- every literal of the clause with this number is in range and marked

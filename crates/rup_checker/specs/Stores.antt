@@ -1,5 +1,5 @@
 -- Lists of clauses in one flat store, and what a checker knows.
-use Rattle.std.specs.Prelude.{◌≡◌, ℕ, ◌≤◌, ℤ, List, [], ◌∷◌, slice_range, slice_index}
+use Rattle.std.specs.Prelude.{◌≡◌, ℕ, ◌≤◌, ℤ, List, [], ◌∷◌, slice_range, slice_index, slice_index_or}
 
 -- what a store holds: its clauses, and for how many more clauses and literals it has memory
 pub record Stored : Type 0 where
@@ -28,3 +28,7 @@ AreEnds from (end ∷ ends) all = (from ≤ end) × AreEnds end ends all
 -- where the piece with this number starts
 abbrev pub start_of : List ℕ → ℕ → ℕ
 start_of ends number = slice_index (0 ∷ ends) number
+
+-- the clause with this number
+abbrev pub clause_at : List (List ℤ) → ℕ → List ℤ
+clause_at clauses n = slice_index_or clauses n []

@@ -2,7 +2,7 @@ ghost use Rattle.std.specs.Prelude.{◌≡◌, ◌^◌, ◌<◌, ◌≤◌, ◌+
 ghost use Rattle.rup_checker.specs.Formulas.{IsLiteral};
 
 use crate::hints::first_outside;
-use crate::store::ClauseStore;
+use crate::store::Store;
 use std::alloc::{AllocError, Global};
 use std::marker::Model;
 
@@ -14,7 +14,7 @@ pub const MAX_VARIABLES: u32 = 16_000_000;
 #[derive(Debug, Drop)]
 pub struct Formula {
     variables: u32,
-    store: ClauseStore,
+    store: Store,
 }
 
 impl Model for Formula {
@@ -41,7 +41,7 @@ impl Formula {
         }
         Some(Formula {
             variables,
-            store: ClauseStore::new(alloc),
+            store: Store::new(alloc),
         })
     }
 
@@ -70,7 +70,14 @@ impl Formula {
         ensures in_range { All (IsLiteral self.now.variables) result.now }
         ensures bound { self.now.variables ≤ MAX_VARIABLES }
     {
-        self.store.clause(number)
+        self.store.at(number)
+    }
+
+    /// Takes memory for so many more clauses, and so many more literals of them.
+    pub fn reserve(&mut self, clauses: usize, literals: usize) -> Result<(), AllocError>
+        ensures same { self.new ≡ self.old }
+    {
+        self.store.reserve(clauses, literals)
     }
 
     /// Whether every literal of a clause is one of the formula's variables, as `push` asks.
@@ -87,6 +94,6 @@ impl Formula {
         ensures ok { OnOk result (self.new.clauses ≡ self.old.clauses ++ clause.now ∷ []) }
         ensures err { OnErr result (self.new.clauses ≡ self.old.clauses) }
     {
-        self.store.push(clause)
+        self.store.append(clause)
     }
 }

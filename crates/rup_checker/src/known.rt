@@ -2,7 +2,7 @@ ghost use Rattle.std.specs.Prelude.{◌≡◌, ◌+◌, ◌<◌, ◌≤◌, ◌+
 ghost use Rattle.rup_checker.specs.Formulas.{IsLiteral};
 
 use crate::formula::{Formula, MAX_VARIABLES};
-use crate::store::ClauseStore;
+use crate::store::Store;
 use std::alloc::{AllocError, Global};
 use std::marker::Model;
 
@@ -10,7 +10,7 @@ use std::marker::Model;
 #[derive(Debug, Drop)]
 pub struct KnownClauses<'a> {
     formula: &'a Formula,
-    added: ClauseStore,
+    added: Store,
 }
 
 impl<'a> Model for KnownClauses<'a> {
@@ -37,7 +37,7 @@ impl<'a> KnownClauses<'a> {
     {
         KnownClauses {
             formula,
-            added: ClauseStore::new(alloc),
+            added: Store::new(alloc),
         }
     }
 
@@ -66,7 +66,7 @@ impl<'a> KnownClauses<'a> {
         if number < given {
             self.formula.clause(number)
         } else {
-            self.added.clause(number - given)
+            self.added.at(number - given)
         }
     }
 
@@ -94,6 +94,6 @@ impl<'a> KnownClauses<'a> {
         ensures err_literals_kept { OnErr result (self.old.spare_literals ≤ self.new.spare_literals) }
         ensures full { OnErr result ((self.old.spare_steps < 1) ⊎ (self.old.spare_literals < length clause.now)) }
     {
-        self.added.push(clause)
+        self.added.append(clause)
     }
 }

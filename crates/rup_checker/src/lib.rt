@@ -27,6 +27,7 @@ pub use formula::{Formula, MAX_VARIABLES};
 pub use law::{accepted_is_not_refused, accepted_log_refutes, accepted_step_follows, one_refusal};
 pub use log::{Log, Step};
 pub use replay::busy;
+pub use store::Store;
 pub use verdict::check;
 
 #[cfg(test)]

@@ -1,17 +1,19 @@
-ghost use Rattle.std.specs.Prelude.{◌≡◌, ◌^◌, ◌+◌, ◌<◌, ◌≤◌, ◌++◌, ◌∷◌, [], ◌⊎◌, Some, IfOk, OnOk, OnErr, length, slice_get, slice_range};
-ghost use Rattle.rup_checker.specs.Stores.{start_of};
+ghost use Rattle.std.specs.Prelude.{◌≡◌, ◌^◌, ◌+◌, ◌<◌, ◌≤◌, ◌++◌, ◌∷◌, [], ◌⊎◌, ℤ, List, Some, IfOk, OnOk, OnErr, length, slice_get, slice_set, slice_range, swap};
+ghost use Rattle.rup_checker.specs.Stores.{start_of, clause_at};
 
 use std::alloc::{AllocError, Global};
 use std::marker::Model;
 
-/// Clauses one after the other in one list of literals, each with the place where it ends.
+/// Clauses, numbered from 0, one after the other in one list of literals, each with the place where it ends. What is an
+/// `i32` is up to the owner. Contracts see a store as its clauses, and for how many more clauses and literals it has
+/// memory.
 #[derive(Debug, Drop)]
-pub struct ClauseStore {
+pub struct Store {
     literals: Vec<i32>,
     ends: Vec<usize>,
 }
 
-impl Model for ClauseStore {
+impl Model for Store {
     ghost use Rattle.std.specs.Prelude.{◌-◌, vec_len, vec_capacity, length};
     ghost use Rattle.rup_checker.specs.Stores.{Stored, pieces, AreEnds};
 
@@ -42,14 +44,26 @@ fn part(literals: &[i32], from: usize, to: usize) -> &[i32]
     &literals[from..to]
 }
 
-impl ClauseStore {
-    pub fn new(alloc: Global) -> ClauseStore
+impl Store {
+    /// No clauses. It takes no memory.
+    pub fn new(alloc: Global) -> Store
         ensures clauses { result.clauses ≡ [] }
     {
-        ClauseStore {
+        Store {
             literals: Vec::new(alloc),
             ends: Vec::new(alloc),
         }
+    }
+
+    /// No clauses, with memory for so many, and for so many literals.
+    pub fn with_room(alloc: Global, clauses: usize, literals: usize) -> Result<Store, AllocError>
+        ensures none { IfOk result (λ s. s.clauses ≡ []) }
+        ensures clauses_room { IfOk result (λ s. clauses ≤ s.spare_clauses) }
+        ensures literals_room { IfOk result (λ s. literals ≤ s.spare_literals) }
+    {
+        let mut store = Store::new(alloc);
+        store.reserve(clauses, literals)?;
+        Ok(store)
     }
 
     /// The number of clauses.
@@ -61,7 +75,15 @@ impl ClauseStore {
     }
 
     /// The literals of the clause with this number.
-    pub fn clause(&self, number: usize) -> &[i32]
+    pub fn clause(&self, number: u32) -> &[i32]
+        requires { number < length self.now.clauses }
+        ensures { slice_get self.now.clauses number ≡ Some result.now }
+    {
+        self.at(number as usize)
+    }
+
+    /// The literals of the clause with this number.
+    pub(crate) fn at(&self, number: usize) -> &[i32]
         requires { number < length self.now.clauses }
         ensures { slice_get self.now.clauses number ≡ Some result.now }
     {
@@ -82,8 +104,25 @@ impl ClauseStore {
         self.literals.reserve(literals)
     }
 
+    /// Appends a clause, and answers its number.
+    pub fn push(&mut self, clause: &[i32]) -> Result<u32, AllocError>
+        requires { length self.old.clauses < 4294967295 }
+        ensures number { IfOk result (λ n. n ≡ length self.old.clauses) }
+        ensures ok { OnOk result (self.new.clauses ≡ self.old.clauses ++ clause.now ∷ []) }
+        ensures err { OnErr result (self.new.clauses ≡ self.old.clauses) }
+        ensures clauses_kept { OnOk result (self.old.spare_clauses ≤ self.new.spare_clauses + 1) }
+        ensures literals_kept { OnOk result (self.old.spare_literals ≤ self.new.spare_literals + length clause.now) }
+        ensures err_clauses_kept { OnErr result (self.old.spare_clauses ≤ self.new.spare_clauses) }
+        ensures err_literals_kept { OnErr result (self.old.spare_literals ≤ self.new.spare_literals) }
+        ensures full { OnErr result ((self.old.spare_clauses < 1) ⊎ (self.old.spare_literals < length clause.now)) }
+    {
+        let number = self.len() as u32;
+        self.append(clause)?;
+        Ok(number)
+    }
+
     /// Appends a clause.
-    pub fn push(&mut self, clause: &[i32]) -> Result<(), AllocError>
+    pub(crate) fn append(&mut self, clause: &[i32]) -> Result<(), AllocError>
         ensures ok { OnOk result (self.new.clauses ≡ self.old.clauses ++ clause.now ∷ []) }
         ensures err { OnErr result (self.new.clauses ≡ self.old.clauses) }
         ensures clauses_kept { OnOk result (self.old.spare_clauses ≤ self.new.spare_clauses + 1) }
@@ -97,5 +136,19 @@ impl ClauseStore {
         let end = self.literals.len();
         self.ends.push_reserved(end);
         Ok(())
+    }
+
+    /// Puts two literals of a clause in each other's place.
+    pub fn swap(&mut self, number: u32, one: usize, other: usize)
+        requires there { number < length self.old.clauses }
+        requires one { one < length (clause_at self.old.clauses number) }
+        requires other { other < length (clause_at self.old.clauses number) }
+        ensures swapped { self.new.clauses ≡
+            slice_set self.old.clauses number (swap (clause_at self.old.clauses number) one other) }
+        ensures clauses_kept { self.new.spare_clauses ≡ self.old.spare_clauses }
+        ensures literals_kept { self.new.spare_literals ≡ self.old.spare_literals }
+    {
+        let from = start(&self.ends, number as usize);
+        self.literals.swap(from + one, from + other);
     }
 }

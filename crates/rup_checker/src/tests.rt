@@ -1,6 +1,6 @@
 //! Steps and logs with their answers.
 
-use crate::{Checker, Formula, Log, LogFault, MAX_VARIABLES, Step, StepFault, busy, check};
+use crate::{Checker, Formula, Log, LogFault, MAX_VARIABLES, Step, StepFault, Store, busy, check};
 use sqlite_items::Items;
 use std::alloc::{AllocError, Global};
 use std::test::Fail;
@@ -166,6 +166,7 @@ fn formula(alloc: Global, variables: u32, clauses: &[&[i32]]) -> Result<Formula,
     let Some(mut formula) = Formula::new(alloc, variables) else {
         return Err(Fail::new("too many variables"));
     };
+    formula.reserve(clauses.len(), clauses.len())?;
     for &clause in clauses {
         if !formula.allows(clause) {
             return Err(Fail::new("a literal out of range"));
@@ -194,6 +195,22 @@ fn bounds_the_variables(rt: HostRuntime) -> Result<(), Fail> {
     let formula = formula(alloc, 6, PIGEONS)?;
     assert!(rt; formula.variables() == 6 && formula.len() == 9);
     assert!(rt; formula.allows(&[6, -6]) && !formula.allows(&[1, 7]) && !formula.allows(&[0]));
+    Ok(())
+}
+
+#[test]
+fn stores_clauses_in_order(rt: HostRuntime) -> Result<(), Fail> {
+    let alloc = rt.alloc();
+    let mut store = Store::with_room(alloc, 1, 1)?;
+    assert_eq!(rt; store.push(&[1, -2, 3])?, 0);
+    assert_eq!(rt; store.push(&[])?, 1);
+    assert_eq!(rt; store.push(&[4, 5])?, 2);
+    store.swap(0, 0, 2);
+    store.swap(2, 1, 1);
+    assert_eq!(rt; store.len(), 3);
+    assert_eq!(rt; store.clause(0), [3, -2, 1].as_slice());
+    assert!(rt; store.clause(1).is_empty());
+    assert_eq!(rt; store.clause(2), [4, 5].as_slice());
     Ok(())
 }
 

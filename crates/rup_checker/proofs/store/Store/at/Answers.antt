@@ -3,7 +3,7 @@ use Rattle.std.specs.Prelude.{ℤ, Some, slice_get, slice_range}
 use Rattle.std.proofs.lemmas.List.{get_or_default}
 use Rattle.rup_checker.specs.Stores.{Stored}
 use Rattle.rup_checker.proofs.Pieces.{piece_at, ends_at, length-pieces}
-use Rattle.rup_checker.proofs.store.ClauseStore.clause.Goals as goal
+use Rattle.rup_checker.proofs.store.Store.at.Goals as goal
 
 pub start-from-requires : goal.start-from-requires
 start-from-requires c = grind (arith, length-pieces, c.self.view_is, c.requires)

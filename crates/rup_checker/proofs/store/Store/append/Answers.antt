@@ -1,6 +1,6 @@
 use Rattle.std.proofs.Common.{◌+◌, length, arith, length-append}
 use Rattle.rup_checker.proofs.Pieces.{AreEnds-push, pieces-push}
-use Rattle.rup_checker.proofs.store.ClauseStore.push.Goals as goal
+use Rattle.rup_checker.proofs.store.Store.append.Goals as goal
 
 pub invariant_of-self-2 : goal.invariant_of-self-2
 invariant_of-self-2 c =
