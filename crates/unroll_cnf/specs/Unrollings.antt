@@ -3,6 +3,7 @@ use Rattle.std.specs.Prelude.{ℕ, zero, suc, ◌+◌, ◌-◌, ◌*◌, ◌==�
 use Rattle.lll_core.specs.declared.signal.Signal.{Signal}
 use Rattle.lll_core.specs.declared.lll.Lll.{Lll}
 use Rattle.lll_core.specs.Signals.{is_negated}
+use Rattle.miter.specs.declared.parts.MiterLll.{MiterLll}
 use Rattle.rup_checker.specs.Formulas.{Cnf}
 use Rattle.unroll_cnf.specs.Clauses.{literal_at, clauses_from}
 
@@ -53,14 +54,14 @@ step_demands l p k instant =
     (if instant == 0 then l.keep ∷ [] else []) ++ l.assume ∷ l.constraints
     ++ (if instant == k then opposite p else p) ∷ []
 
--- assume, and the opposite of the part
+-- assume, and the opposite of the part q
 abbrev pub part_base_demands : Lll → ℕ → Demands
-part_base_demands l part instant = l.assume ∷ opposite part ∷ []
+part_base_demands l q instant = l.assume ∷ opposite q ∷ []
 
--- assume at each instant, all parts at the first, and the opposite of the part at the second
+-- assume at each instant, all parts at the first, and the opposite of the part q at the second
 abbrev pub part_step_demands : Lll → List ℕ → ℕ → Demands
-part_step_demands l parts part instant =
-    l.assume ∷ (if instant == 0 then parts else opposite part ∷ [])
+part_step_demands l parts q instant =
+    l.assume ∷ (if instant == 0 then parts else opposite q ∷ [])
 
 -- ---- the formulas
 
@@ -76,10 +77,14 @@ base_formula l p j = unrolled l.signals false (base_demands l (obligation l p) j
 abbrev pub step_formula : Lll → ℕ → ℕ → Cnf
 step_formula l p k = unrolled l.signals true (step_demands l (obligation l p) k) (k + 1)
 
+-- the literal of the part with this number
+abbrev pub part : MiterLll → ℕ → ℕ
+part m i = slice_index m.parts i
+
 -- runs of one instant that break a part
-abbrev pub part_base_formula : Lll → List ℕ → ℕ → Cnf
-part_base_formula l parts i = unrolled l.signals false (part_base_demands l (slice_index parts i)) 1
+abbrev pub part_base_formula : MiterLll → ℕ → Cnf
+part_base_formula m i = unrolled m.lll.signals false (part_base_demands m.lll (part m i)) 1
 
 -- windows of two instants that meet all parts at the first and break one at the second
-abbrev pub part_step_formula : Lll → List ℕ → ℕ → Cnf
-part_step_formula l parts i = unrolled l.signals true (part_step_demands l parts (slice_index parts i)) 2
+abbrev pub part_step_formula : MiterLll → ℕ → Cnf
+part_step_formula m i = unrolled m.lll.signals true (part_step_demands m.lll m.parts (part m i)) 2

@@ -2,11 +2,12 @@
 
 ghost use Rattle.std.specs.Prelude.{◌≡◌, ◌+◌, ◌*◌, ◌<◌, ◌≤◌, ◌++◌, ◌∷◌, [], ◌↔◌, false, true, IsTrue, IfOk, OnOk, length, slice_index};
 ghost use Rattle.lll_core.specs.Signals.{NamesSignal};
-ghost use Rattle.unroll_cnf.specs.Unrollings.{demand_clauses, instant_clauses, base_demands, step_demands, base_formula, step_formula};
+ghost use Rattle.unroll_cnf.specs.Unrollings.{demand_clauses, instant_clauses, base_demands, step_demands, base_formula, step_formula, part_base_formula, part_step_formula};
 
 use crate::literal::opposite;
 use crate::signals::{push_demand, push_demands, push_signals};
 use lll_core::Lll;
+use miter::MiterLll;
 use rup_checker::{Formula, MAX_VARIABLES};
 use std::alloc::{AllocError, Global};
 
@@ -127,5 +128,39 @@ pub fn step(alloc: Global, l: &Lll, p: usize, k: u32) -> Result<Formula, AllocEr
     for instant in 0..k + 1 {
         push_step_instant(&mut formula, l, obligation, k, instant)?;
     }
+    Ok(formula)
+}
+
+/// The formula of the runs of one instant that meet assume and break the part with number `i`.
+pub fn part_base(alloc: Global, m: &MiterLll, i: usize) -> Result<Formula, AllocError>
+    requires part { i < length m.now.parts }
+    requires size { length m.now.lll.signals ≤ 16000000 }
+    ensures { IfOk result (λ f. f ≡ part_base_formula m.now i) }
+{
+    let size = m.lll.signals.len() as u32;
+    let broken = opposite(m.parts.as_slice()[i]);
+    let mut formula = empty(alloc, size);
+    push_signals(&mut formula, false, 0, m.lll.signals.as_slice())?;
+    push_demand(&mut formula, size, 0, m.lll.assume)?;
+    push_demand(&mut formula, size, 0, broken)?;
+    Ok(formula)
+}
+
+/// The formula of the windows of two instants that meet assume at both and all parts at the first, and break the
+/// part with number `i` at the second.
+pub fn part_step(alloc: Global, m: &MiterLll, i: usize) -> Result<Formula, AllocError>
+    requires part { i < length m.now.parts }
+    requires size { 2 * length m.now.lll.signals ≤ 16000000 }
+    ensures { IfOk result (λ f. f ≡ part_step_formula m.now i) }
+{
+    let size = m.lll.signals.len() as u32;
+    let broken = opposite(m.parts.as_slice()[i]);
+    let mut formula = empty(alloc, 2 * size);
+    push_signals(&mut formula, true, 0, m.lll.signals.as_slice())?;
+    push_demand(&mut formula, size, 0, m.lll.assume)?;
+    push_demands(&mut formula, size, 0, m.parts.as_slice())?;
+    push_signals(&mut formula, true, 1, m.lll.signals.as_slice())?;
+    push_demand(&mut formula, size, 1, m.lll.assume)?;
+    push_demand(&mut formula, size, 1, broken)?;
     Ok(formula)
 }

@@ -11,5 +11,5 @@ mod formulas;
 mod literal;
 mod signals;
 
-pub use formulas::{base, fits, step};
+pub use formulas::{base, fits, part_base, part_step, step};
 // pub use laws::{base_is_exact, step_is_exact};
