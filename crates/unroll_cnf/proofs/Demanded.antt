@@ -1,14 +1,13 @@
 -- Which tables meet what each formula demands.
-use Rattle.std.proofs.Common.{◌≡◌, ◌≢◌, ℕ, zero, suc, ◌+◌, ◌-◌, ◌*◌, ◌/◌, ◌%◌, ◌<◌, ◌≤◌, ◌==◌, Bool, true, false, List, [], ◌∷◌, ◌++◌, length, get_or, Some, slice_get, refl, sym, ap, subst, ◌∙◌, ◌⊎◌, inl, inr, true≢false, arith}
-use Rattle.std.specs.Prelude.{◌↔◌, not, All, if◌then◌else◌, slice_index}
-use Rattle.std.proofs.lemmas.List.Elements.{All-append, All-head, All-tail, All-cons, All-get_or}
+use Rattle.std.proofs.Common.{◌≡◌, ◌≢◌, ℕ, ◌+◌, ◌-◌, ◌/◌, ◌%◌, ◌<◌, ◌==◌, Bool, true, false, List, [], ◌∷◌, ◌++◌, length, get_or, Some, slice_get, refl, sym, ap, subst, ◌∙◌, inl, inr, true≢false, arith}
+use Rattle.std.specs.Prelude.{not, All, if◌then◌else◌}
+use Rattle.std.proofs.lemmas.List.Elements.{All-append, All-head, All-tail, All-cons}
 use Rattle.std.proofs.lemmas.Bool.Decides.{eqb_tells}
 use Rattle.std.proofs.lemmas.Option.{slice_get_within, slice_get-get_or, get_or_from_slice_get}
-use Rattle.lll_core.specs.declared.signal.Signal.{Signal}
 use Rattle.lll_core.specs.declared.lll.Lll.{Lll}
 use Rattle.miter.specs.declared.parts.MiterLll.{MiterLll}
-use Rattle.lll_core.specs.Signals.{signal_of, is_negated, NamesSignal}
-use Rattle.lll_core.specs.Tables.{Instant, Table, signal_value, value, IsRun, IsWindow}
+use Rattle.lll_core.specs.Signals.{signal_of, is_negated}
+use Rattle.lll_core.specs.Tables.{Instant, Table, signal_value, value}
 use Rattle.unroll_cnf.specs.Unrollings.{opposite, base_demands, step_demands, part_base_demands, part_step_demands, obligation, part}
 use Rattle.unroll_cnf.specs.Counterexamples.{instant_at, IsAdmitted, IsCounterexample, IsInductionCounterexample, IsPartCounterexample, IsPartInductionCounterexample}
 use Rattle.unroll_cnf.proofs.Instants.{Meets}

@@ -1,12 +1,12 @@
 -- The clauses of signals at an instant are satisfied just where the equations hold at the instants that are shown.
-use Rattle.std.proofs.Common.{◌≡◌, ℕ, zero, suc, ◌+◌, ◌*◌, ◌<◌, ◌≤◌, Bool, true, false, List, [], ◌∷◌, ◌++◌, length, get_or, map, Some, slice_get, refl, sym, ap, subst, ◌∙◌, true≢false, arith}
+use Rattle.std.proofs.Common.{◌≡◌, ℕ, zero, suc, ◌+◌, ◌<◌, ◌≤◌, Bool, true, false, List, [], ◌∷◌, ◌++◌, Some, slice_get, refl, sym, ap, subst, ◌∙◌, true≢false, arith}
 use Rattle.std.specs.Prelude.{ℤ, pos, not, ◌||◌, ◌↔◌, All, Any}
 use Rattle.std.proofs.lemmas.Option.{none-some, same_Some}
 use Rattle.std.proofs.lemmas.List.Elements.{All-append, All-head, All-tail, All-cons}
 use Rattle.lll_core.specs.declared.signal.Signal.{Signal}
 use Rattle.lll_core.specs.declared.signal.Signal.TheVariants.{One, Input, Latch, Imp, Eqv}
-use Rattle.lll_core.specs.Signals.{signal_of, operands, nexts, NamesSignal}
-use Rattle.lll_core.specs.Tables.{Instant, signal_value, value, are_equal, HoldsNow, HoldsAtStart, HoldsAfter}
+use Rattle.lll_core.specs.Signals.{signal_of, operands, nexts}
+use Rattle.lll_core.specs.Tables.{signal_value, value, are_equal, HoldsNow, HoldsAtStart, HoldsAfter}
 use Rattle.rup_checker.specs.Formulas.{Assignment, truth, Satisfies}
 use Rattle.unroll_cnf.specs.Clauses.{variable_at, literal_at, latch_clauses, signal_clauses, clauses_from, equality_clauses, implication_clauses, equivalence_clauses}
 use Rattle.unroll_cnf.specs.Unrollings.{demand_clauses}

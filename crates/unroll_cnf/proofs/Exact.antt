@@ -1,6 +1,6 @@
 -- Each formula describes the tables that it is about.
-use Rattle.std.proofs.Common.{◌≡◌, ℕ, ◌+◌, ◌<◌, ◌==◌, Bool, true, false, List, [], ◌∷◌, ◌++◌, length, refl, sym, ap, subst, ◌∙◌, arith}
-use Rattle.std.specs.Prelude.{◌↔◌, All, if◌then◌else◌, slice_index}
+use Rattle.std.proofs.Common.{◌≡◌, ℕ, ◌+◌, ◌<◌, ◌==◌, Bool, true, false, List, [], ◌∷◌, ◌++◌, length, sym, subst}
+use Rattle.std.specs.Prelude.{◌↔◌, All, if◌then◌else◌}
 use Rattle.std.proofs.lemmas.List.Elements.{All-append, All-cons, All-get_or}
 use Rattle.lll_core.specs.declared.signal.Signal.{Signal}
 use Rattle.lll_core.specs.declared.lll.Lll.{Lll}
@@ -9,7 +9,7 @@ use Rattle.lll_core.specs.Tables.{Table}
 use Rattle.miter.specs.declared.parts.MiterLll.{MiterLll}
 use Rattle.rup_checker.specs.Formulas.{Assignment, Satisfies}
 use Rattle.unroll_cnf.specs.Unrollings.{Demands, opposite, unrolled_clauses, base_demands, step_demands, part_base_demands, part_step_demands, obligation, part, base_formula, step_formula, part_base_formula, part_step_formula}
-use Rattle.unroll_cnf.specs.Counterexamples.{IsCounterexample, IsInductionCounterexample, IsPartCounterexample, IsPartInductionCounterexample, shown, assignment_of, IsSatisfiable, Describes}
+use Rattle.unroll_cnf.specs.Counterexamples.{IsCounterexample, IsInductionCounterexample, IsPartCounterexample, IsPartInductionCounterexample, shown, assignment_of, Describes}
 use Rattle.unroll_cnf.proofs.Demanded.{signal_of-opposite, is_counterexample, counterexample_meets, is_induction_counterexample, induction_counterexample_meets, is_part_counterexample, part_counterexample_meets, is_part_induction_counterexample, part_induction_counterexample_meets}
 use Rattle.unroll_cnf.proofs.Instants.{Meets, shown_meets, shown_satisfied}
 use Rattle.unroll_cnf.proofs.ListLemmas.{All-none, All-one}

@@ -4,5 +4,6 @@ pub mod Equations
 pub mod Exact
 pub mod Instants
 pub mod ListLemmas
+pub mod RowLemmas
 pub mod Shown
 pub mod Truth

@@ -1,14 +1,14 @@
 -- The instants that an assignment shows, and the assignment that a table makes.
-use Rattle.std.proofs.Common.{◌≡◌, ℕ, zero, suc, ◌+◌, ◌-◌, ◌*◌, ◌<◌, ◌≤◌, Bool, true, false, List, [], ◌∷◌, ◌++◌, length, get_or, map, Some, slice_get, slice_index_or, refl, sym, ap, subst, ◌∙◌, arith}
-use Rattle.std.specs.Prelude.{ℤ, pos, neg_ℤ, nat_abs, not, if◌then◌else◌}
-use Rattle.std.specs.List.{flat_map, range_with_len}
+use Rattle.std.proofs.Common.{◌≡◌, ℕ, zero, suc, ◌+◌, ◌-◌, ◌*◌, ◌<◌, ◌≤◌, Bool, true, false, List, [], ◌∷◌, ◌++◌, length, get_or, Some, slice_get, refl, sym, ap, ◌∙◌, arith}
+use Rattle.std.specs.Prelude.{pos, neg_ℤ, nat_abs, not, if◌then◌else◌}
+use Rattle.std.specs.List.{flat_map}
 use Rattle.std.proofs.lemmas.List.{get_or_append_left, get_or-append-add}
 use Rattle.std.proofs.lemmas.List.FromFn.{length-map-range_with_len, get_or-map-range_with_len, fill_by_all}
-use Rattle.std.proofs.lemmas.Option.{none-some, same_Some, slice_get_within, get_or_from_slice_get, slice_get-get_or}
+use Rattle.std.proofs.lemmas.Option.{none-some, same_Some, slice_get_within, slice_get-get_or}
 use Rattle.lll_core.specs.declared.signal.Signal.{Signal}
 use Rattle.lll_core.specs.Signals.{signal_of, is_negated}
 use Rattle.lll_core.specs.Tables.{Instant, Table, signal_value, value}
-use Rattle.rup_checker.specs.Formulas.{Assignment, truth, listed}
+use Rattle.rup_checker.specs.Formulas.{Assignment, truth}
 use Rattle.unroll_cnf.specs.Clauses.{variable_at, literal_at}
 use Rattle.unroll_cnf.specs.Counterexamples.{shown_at, shown, assignment_of}
 use Rattle.unroll_cnf.proofs.Truth.{truth-neg}

@@ -1,6 +1,6 @@
 -- When the clauses over a few literals are satisfied.
-use Rattle.std.proofs.Common.{◌≡◌, ℕ, zero, suc, ◌<◌, ◌≤◌, Bool, true, false, List, [], ◌∷◌, refl, sym, ap, subst, ◌∙◌, true≢false, arith, length, get_or}
-use Rattle.std.specs.Prelude.{ℤ, pos, negsuc, neg_ℤ, nat_abs, not, ◌||◌, ◌&&◌, ◌↔◌, All, Any, if◌then◌else◌}
+use Rattle.std.proofs.Common.{◌≡◌, ℕ, zero, suc, ◌<◌, ◌≤◌, Bool, true, false, List, [], ◌∷◌, refl, sym, ap, ◌∙◌, true≢false, arith, length, get_or}
+use Rattle.std.specs.Prelude.{ℤ, pos, negsuc, neg_ℤ, nat_abs, not, ◌||◌, ◌&&◌, ◌↔◌, Any, if◌then◌else◌}
 use Rattle.std.proofs.lemmas.List.Elements.{All-cons, All-head, All-tail}
 use Rattle.lll_core.specs.Tables.{are_equal}
 use Rattle.rup_checker.specs.Formulas.{Assignment, truth, Satisfies}

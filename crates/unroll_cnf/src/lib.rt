@@ -9,7 +9,9 @@ mod clauses;
 mod formulas;
 mod laws;
 mod literal;
+mod rows;
 mod signals;
 
 pub use formulas::{base, fits, part_base, part_step, step};
 pub use laws::{base_is_exact, part_base_is_exact, part_step_is_exact, step_is_exact};
+pub use rows::{first_latches, input_rows};

@@ -1,4 +1,4 @@
-use Rattle.std.proofs.Common.{◌≡◌, ◌+◌, ◌*◌, ◌≤◌, false, length}
+use Rattle.std.proofs.Common.{◌≡◌, ◌+◌, ◌*◌, false, length}
 use Rattle.unroll_cnf.specs.Unrollings.{base_demands, unrolled_clauses}
 use Rattle.unroll_cnf.proofs.formulas.base.Given as goal
 

@@ -1,4 +1,4 @@
-use Rattle.std.proofs.Common.{◌≡◌, ◌+◌, ◌*◌, ◌≤◌, true, length}
+use Rattle.std.proofs.Common.{◌≡◌, ◌+◌, ◌*◌, true, length}
 use Rattle.unroll_cnf.specs.Unrollings.{step_demands, unrolled_clauses}
 use Rattle.unroll_cnf.proofs.formulas.step.Given as goal
 

@@ -1,4 +1,4 @@
-use Rattle.std.proofs.Common.{◌≡◌, ◌++◌, take, length}
+use Rattle.std.proofs.Common.{◌≡◌, ◌++◌, take}
 use Rattle.unroll_cnf.specs.Clauses.{clauses_from}
 use Rattle.unroll_cnf.proofs.signals.push_signals.Given as goal
 
