@@ -4,7 +4,7 @@ use Rattle.std.specs.Prelude.{ℤ, neg_ℤ, All, Contains, IsSomeAnd, slice_get}
 use Rattle.std.specs.List.{cons_option}
 use Rattle.std.proofs.Math.IntN.{neg_ℤ-neg_ℤ}
 use Rattle.std.proofs.lemmas.List.Elements.{All-contains, All-push, All-weaker, Contains-push, Contains-push_cases, Contains-append_left, filter_map-append}
-use Rattle.rup_checker.specs.Logs.{IsQuiet, IsNew, Strengthens}
+use Rattle.rup_checker.specs.Logs.{IsQuiet, IsNew, IsOneEmpowering}
 use Rattle.cdcl_solver.specs.declared.trail.Assigned.{Assigned}
 use Rattle.cdcl_solver.specs.declared.trail.Reason.{Reason}
 use Rattle.cdcl_solver.specs.declared.trail.Reason.TheVariants as reason
@@ -98,7 +98,7 @@ module _ (n : ℕ) (clauses : List (List ℤ)) (before later : List Assigned) (d
       ]
 
   -- the learnt clause makes propagation stronger
-  pub learnt_grows : Strengthens clauses (denied before ++ neg_ℤ d ∷ [])
+  pub learnt_grows : IsOneEmpowering clauses (denied before ++ neg_ℤ d ∷ [])
   learnt_grows = record {
     literal = neg_ℤ d;
     taken = taken;

@@ -11,7 +11,7 @@ use Rattle.std.proofs.lemmas.List.Elements.{All-nil, All-cons, All-contains}
 use Rattle.rup_checker.specs.declared.log.Step.{Step}
 use Rattle.rup_checker.specs.Formulas.{Cnf, IsLiteral}
 use Rattle.rup_checker.specs.Steps.{IsAllFalse, IsUnit, IsAccepted, Refutes}
-use Rattle.rup_checker.specs.Logs.{IsQuiet, known, added, Each, AreAccepted, IsNew, IsBusy, Strengthens}
+use Rattle.rup_checker.specs.Logs.{IsQuiet, known, added, Each, AreAccepted, IsNew, IsBusy, IsOneEmpowering}
 use Rattle.cdcl_solver.specs.declared.search.Search.{Search}
 use Rattle.cdcl_solver.specs.declared.trail.Assigned.{Assigned}
 use Rattle.cdcl_solver.specs.declared.trail.Reason.{Reason}
@@ -132,8 +132,8 @@ learnt f s t step search accepted is before agrees more room = record {
   accepted = subst (AreAccepted f) (sym more) (each_push (λ clauses r. IsAccepted f.variables clauses r.clause r.hints) f s.steps step search.accepted accepted);
   new = subst (Each (λ clauses r. IsNew clauses r.clause) f) (sym more) (each_push (λ clauses r. IsNew clauses r.clause) f s.steps step search.new
       (subst (IsNew (known f s.steps)) (sym clause) (learnt_new f.variables (known f s.steps) t.trail before.later before.decided trail before.last)));
-  grows = subst (Each (λ clauses r. Strengthens clauses r.clause) f) (sym more) (each_push (λ clauses r. Strengthens clauses r.clause) f s.steps step search.grows
-      (subst (Strengthens (known f s.steps)) (sym clause) (learnt_grows f.variables (known f s.steps) t.trail before.later before.decided trail before.last)));
+  grows = subst (Each (λ clauses r. IsOneEmpowering clauses r.clause) f) (sym more) (each_push (λ clauses r. IsOneEmpowering clauses r.clause) f s.steps step search.grows
+      (subst (IsOneEmpowering (known f s.steps)) (sym clause) (learnt_grows f.variables (known f s.steps) t.trail before.later before.decided trail before.last)));
   justified = subst (λ (cs : List (List ℤ)). IsTrail f.variables cs [] t.trail) (sym (ap (known f) more ∙ known_push f s.steps step ∙ ap (λ (c : List ℤ). known f s.steps ++ c ∷ []) clause))
       (learnt_trail f.variables (known f s.steps) t.trail before.later before.decided trail before.last);
   agrees = agrees;
