@@ -1,4 +1,4 @@
-//! Tests of the whole command, over files and a sink in memory.
+//! Tests that cross crates: of the whole command, over files and a sink in memory, and of miters.
 #![tactic(auto)]
 
 #[cfg(test)]
@@ -9,5 +9,7 @@ mod endless;
 mod limits;
 #[cfg(test)]
 mod memory;
+#[cfg(test)]
+mod miters;
 #[cfg(test)]
 mod values;

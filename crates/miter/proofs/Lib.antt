@@ -1,0 +1,11 @@
+pub mod Agreeing
+pub mod CompareLemmas
+pub mod Indexes
+pub mod JoiningLemmas
+pub mod MiterSignals
+pub mod NameLemmas
+pub mod NewNames
+pub mod Partners
+pub mod SignalNames
+pub mod Splitting
+pub mod Whole
