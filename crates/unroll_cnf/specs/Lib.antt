@@ -1,0 +1,4 @@
+pub mod Clauses
+pub mod Counterexamples
+pub mod Rows
+pub mod Unrollings
