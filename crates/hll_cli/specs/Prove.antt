@@ -1,5 +1,5 @@
 -- What `prove` answers.
-use Rattle.std.specs.Prelude.{◌≡◌, ℕ, Bool, true, false, List, Option, Some, IsSomeAnd, length, ◌≤◌}
+use Rattle.std.specs.Prelude.{◌≡◌, ℕ, Bool, true, false, List, Some, length, ◌≤◌}
 use Rattle.ports.specs.Causes.{Rose}
 use Rattle.ports.specs.Contents.{Files}
 use Rattle.hll_tree.specs.declared.tree.HllModel.{HllModel}

@@ -1,6 +1,6 @@
 //! A text decided: its report, or why there is none.
 
-ghost use Rattle.std.specs.Prelude.{◌≡◌, ◌≤◌, List, length, IfOk, Err};
+ghost use Rattle.std.specs.Prelude.{◌≡◌, ◌≤◌, length, IfOk, Err};
 ghost use Rattle.std.specs.List.{AllByRecursion};
 ghost use Rattle.hll_tree.specs.declared.tree.HllModel.{HllModel};
 ghost use Rattle.hll_tree.specs.Meaning.{obligations};

@@ -1,7 +1,7 @@
 //! The command `prove MODEL`: it decides each obligation of the model.
 
-ghost use Rattle.std.specs.Prelude.{◌≡◌, ◌≤◌, Err, IfOk};
-ghost use Rattle.ports.specs.Causes.{HasCause, SameCounts, SameOtherCounts};
+ghost use Rattle.std.specs.Prelude.{◌≡◌, Err, IfOk};
+ghost use Rattle.ports.specs.Causes.{SameCounts};
 ghost use Rattle.ports.specs.Contents.{Tells, SameFiles};
 ghost use Rattle.hll_cli.specs.Prove.{IsDecided, IsUndecided, IsProveAnswer};
 ghost use Rattle.hll_cli.specs.Reading.{view_of, ReadsOnly};
