@@ -228,12 +228,12 @@ fn section(alloc: Global, text: &[u8], tokens: &[Token]) -> Result<(Section, usi
 /// The model that the tokens of a text spell.
 pub fn parse(alloc: Global, text: &[u8], tokens: &[Token]) -> Result<HllModel, SyntaxFault>
     requires { Splits text.now tokens.now }
-    ensures spelled { IfOk result (λ m. SpellsWithin LEVELS text.now tokens.now m) }
+    ensures spelled { IfOk result (λ m. SpellsWithin 200 text.now tokens.now m) }
     // They spell no other.
     ensures only { IfOk result
-        (λ m. (other : HllModel) → SpellsWithin LEVELS text.now tokens.now other → other ≡ m) }
+        (λ m. (other : HllModel) → SpellsWithin 200 text.now tokens.now other → other ≡ m) }
     ensures unbuilt { result ≡ Err SyntaxFault.Unbuilt →
-        (m : HllModel) → SpellsWithin LEVELS text.now tokens.now m → ⊥ }
+        (m : HllModel) → SpellsWithin 200 text.now tokens.now m → ⊥ }
 {
     let mut sections = Items::new(alloc);
     let mut taken = 0;
