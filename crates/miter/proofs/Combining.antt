@@ -1,5 +1,5 @@
 -- A run of each model with the same inputs by name make a run of the miter, and so do windows.
-use Rattle.std.proofs.Common.{◌≡◌, ℕ, zero, suc, ◌+◌, ◌<◌, ◌≤◌, Bool, true, false, List, [], ◌∷◌, ◌++◌, ◌⊎◌, inl, inr, Some, length, map, take, drop, replicate, All, slice_get, get_or, refl, sym, ap, subst, ◌∙◌, append_assoc, length-append, if◌then◌else◌, arith}
+use Rattle.std.proofs.Common.{◌≡◌, ℕ, suc, ◌+◌, ◌≤◌, Bool, true, false, List, [], ◌∷◌, ◌++◌, inl, inr, Some, length, map, take, drop, replicate, All, slice_get, get_or, refl, sym, ap, subst, ◌∙◌, length-append, if◌then◌else◌, arith}
 use Rattle.std.proofs.lemmas.List.{length-map, length-take-le, length-replicate, append-nil, drop_more}
 use Rattle.std.proofs.lemmas.List.Elements.{All-nil, All-cons, All-head, All-tail, All-append, All-weaker, All-map}
 use Rattle.std.proofs.lemmas.Option.{none-some, same_Some}
@@ -7,7 +7,7 @@ use Rattle.lll_core.specs.declared.lll.Lll.{Lll}
 use Rattle.lll_core.specs.declared.signal.Signal.{Signal}
 use Rattle.lll_core.specs.declared.signal.Signal.TheVariants.{One, Input, Latch, Imp, Eqv}
 use Rattle.lll_core.specs.Signals.{is_input, is_latch}
-use Rattle.lll_core.specs.Tables.{Instant, Table, signal_value, GatesHold, IsWindow, IsRun, values_where, count_where, input_count, input_values, latch_count, latch_values, AreInputs}
+use Rattle.lll_core.specs.Tables.{Instant, Table, signal_value, IsWindow, IsRun, values_where, input_count, input_values, latch_count, latch_values, AreInputs}
 use Rattle.lll_core.proofs.ListLemmas.{slice_get-map_at}
 use Rattle.lll_core.proofs.RowLemmas.{values_where-at, values_where-is, length-values_where}
 use Rattle.lll_core.proofs.TableLemmas.{run_there, window_there, IsWindow-none}
@@ -15,7 +15,7 @@ use Rattle.miter.specs.declared.parts.MiterLll.{MiterLll}
 use Rattle.miter.specs.Pairs.{IsInputAt, Paired}
 use Rattle.miter.specs.Miters.{IsEarlier, IsAppended, ArePlaced, IsMiterBy}
 use Rattle.miter.specs.Agreement.{ShareInputs, AreBoth}
-use Rattle.miter.proofs.Agreeing.{all, facts, facts_a, facts_b, long, whole_front, latches_are, roots_are, part_a, part_b, inputs_shared, tables_are_both, run_of_a, run_of_b, window_of_a, window_of_b}
+use Rattle.miter.proofs.Agreeing.{all, facts, long, whole_front, latches_are, roots_are, inputs_shared, tables_are_both, run_of_a, run_of_b, window_of_a, window_of_b}
 use Rattle.miter.proofs.MiterSignals.{All-from, IsEqvBelow}
 use Rattle.miter.proofs.Partners.{placed_inputs}
 
@@ -74,8 +74,9 @@ values_where-same p signals u v long_u long_v each = values_where-is p signals u
 
 equal_are_neither : (n : ℕ) (equal : List Signal) → All (IsEqvBelow n) equal → All (λ s. is_input s ≡ false) equal × All (λ s. is_latch s ≡ false) equal
 equal_are_neither n equal are = (
-    All-weaker (IsEqvBelow n) (λ s. is_input s ≡ false) (λ s e. ap is_input e.2) equal are,
-    All-weaker (IsEqvBelow n) (λ s. is_latch s ≡ false) (λ s e. ap is_latch e.2) equal are)
+  All-weaker (IsEqvBelow n) (λ s. is_input s ≡ false) (λ s e. ap is_input e.2) equal are,
+  All-weaker (IsEqvBelow n) (λ s. is_latch s ≡ false) (λ s e. ap is_latch e.2) equal are,
+)
 
 input_is : (s : Signal) → is_input s ≡ true → (name : List ℕ) × (s ≡ Input name)
 input_is One e = cc
@@ -129,7 +130,7 @@ module _ (w : List ℕ) (a : List Signal) where
         ∙ ap (λ k. if k then get_or now n false ∷ tail else tail) (appended_kind (a ++ before) s new.0 new.4).1
         ∙ ap (λ k. if is_latch s then get_or now k false ∷ tail else tail) (sym new.3)
         ∙ ap (λ k. if is_latch s then signal_value now p ∷ k else k)
-            (ap (λ k. values_where is_latch (new.1 ++ more) (drop k now)) (sym longer) ∙ rest)
+        (ap (λ k. values_where is_latch (new.1 ++ more) (drop k now)) (sym longer) ∙ rest)
   ]
 
 -- ---- tables
@@ -164,8 +165,8 @@ module _ (a b : Lll) (m : MiterLll) (w : List ℕ) (added latches roots : List S
       ap (λ k. values_where is_input k now) front_is
       ∙ values_where-append is_input a.signals more now (omega (arith, within now same))
       ∙ ap (λ vs. input_values a.signals (to_a now) ++ vs) (values_where-none is_input more (drop (length a.signals) now)
-          (All-append (λ s. is_input s ≡ false) added (latches ++ roots) (added_no_inputs w a.signals [] b.signals w added by.placed)
-          (All-append (λ s. is_input s ≡ false) latches roots kinds_latches.0 kinds_roots.0)))
+      (All-append (λ s. is_input s ≡ false) added (latches ++ roots) (added_no_inputs w a.signals [] b.signals w added by.placed)
+      (All-append (λ s. is_input s ≡ false) latches roots kinds_latches.0 kinds_roots.0)))
       ∙ append-nil (input_values a.signals (to_a now))
 
   latches_both : (now : Instant) → length now ≡ length whole → latch_values whole now ≡ latch_values a.signals (to_a now) ++ latch_values b.signals (to_b now)
@@ -174,9 +175,9 @@ module _ (a b : Lll) (m : MiterLll) (w : List ℕ) (added latches roots : List S
       ap (λ k. values_where is_latch k now) front_is
       ∙ values_where-append is_latch a.signals more now (omega (arith, within now same))
       ∙ ap (λ vs. latch_values a.signals (to_a now) ++ vs)
-          (ap (λ k. values_where is_latch more (drop k now)) (sym none)
-          ∙ placed_latches w a.signals (latches ++ roots) now (All-append (λ s. is_latch s ≡ false) latches roots kinds_latches.1 kinds_roots.1) [] b.signals w added
-              (omega (arith, within now same, none)) by.placed)
+      (ap (λ k. values_where is_latch more (drop k now)) (sym none)
+      ∙ placed_latches w a.signals (latches ++ roots) now (All-append (λ s. is_latch s ≡ false) latches roots kinds_latches.1 kinds_roots.1) [] b.signals w added
+      (omega (arith, within now same, none)) by.placed)
 
   long_b : length w ≡ length b.signals
   long_b = long a b m w added latches roots by paired
@@ -201,8 +202,11 @@ module _ (a b : Lll) (m : MiterLll) (w : List ℕ) (added latches roots : List S
   latches_count : latch_count whole ≡ latch_count a.signals + latch_count b.signals
   latches_count = sym (length-values_where is_latch whole some_instant some_long) ∙ ap length (latches_both some_instant some_long)
       ∙ length-append (latch_values a.signals (to_a some_instant)) (latch_values b.signals (to_b some_instant))
-      ∙ omega (arith, length-values_where is_latch a.signals (to_a some_instant) (to_a_long some_instant some_long),
-          length-values_where is_latch b.signals (to_b some_instant) (to_b_long some_instant))
+      ∙ omega (
+        arith,
+        length-values_where is_latch a.signals (to_a some_instant) (to_a_long some_instant some_long),
+        length-values_where is_latch b.signals (to_b some_instant) (to_b_long some_instant),
+      )
 
   module _ (of_a of_b : Table) (window_a : IsWindow a.signals of_a) (window_b : IsWindow b.signals of_b) (same_long : length of_a ≡ length of_b)
       (shared : (t : ℕ) (x y : Instant) → slice_get of_a t ≡ Some x → slice_get of_b t ≡ Some y → ShareInputs a b x y) where
@@ -227,22 +231,22 @@ module _ (a b : Lll) (m : MiterLll) (w : List ℕ) (added latches roots : List S
       a_inputs : map (input_values a.signals) (map to_a g) ≡ inputs
       a_inputs = map_map (input_values a.signals) to_a g
           ∙ map_pairs (λ now. input_values a.signals (to_a now)) (input_values whole) g g refl
-              (λ t now y at at_y. sym (inputs_front now (window.lengths t now at)) ∙ ap (input_values whole) (same_Some now y (sym at ∙ at_y)))
+          (λ t now y at at_y. sym (inputs_front now (window.lengths t now at)) ∙ ap (input_values whole) (same_Some now y (sym at ∙ at_y)))
           ∙ inputs_right
 
       module _ (same_a : map to_a g ≡ of_a) where
         b_inputs : map (input_values b.signals) (map to_b g) ≡ map (input_values b.signals) of_b
         b_inputs = map_map (input_values b.signals) to_b g
             ∙ map_pairs (λ now. input_values b.signals (to_b now)) (input_values b.signals) g of_b (g_long ∙ same_long)
-                (λ t now y at at_y.
-                    let at_x : slice_get of_a t ≡ Some (to_a now) = ap (λ k. slice_get k t) (sym same_a) ∙ slice_get-map_at to_a g t now at in
-                    let here = inputs_shared a b m w added latches roots by paired now (window.gates t now at) in
-                    let there = shared t (to_a now) y at_x at_y in
-                    values_where-same is_input b.signals (to_b now) y (to_b_long now) (window_b.lengths t y at_y) (λ n s at_s passes.
-                        let i = input_is s passes in
-                        let at_n : IsInputAt b.signals i.0 n = at_s ∙ ap Some i.1 in
-                        let j = placed_inputs w a.signals [] b.signals w added by.placed n i.0 at_n in
-                        sym (here i.0 j.0 n j.1 at_n) ∙ there i.0 j.0 n j.1 at_n))
+            (λ t now y at at_y.
+            let at_x : slice_get of_a t ≡ Some (to_a now) = ap (λ k. slice_get k t) (sym same_a) ∙ slice_get-map_at to_a g t now at in
+            let here = inputs_shared a b m w added latches roots by paired now (window.gates t now at) in
+            let there = shared t (to_a now) y at_x at_y in
+            values_where-same is_input b.signals (to_b now) y (to_b_long now) (window_b.lengths t y at_y) (λ n s at_s passes.
+            let i = input_is s passes in
+            let at_n : IsInputAt b.signals i.0 n = at_s ∙ ap Some i.1 in
+            let j = placed_inputs w a.signals [] b.signals w added by.placed n i.0 at_n in
+            sym (here i.0 j.0 n j.1 at_n) ∙ there i.0 j.0 n j.1 at_n))
 
         module _ (same_b : map to_b g ≡ of_b) where
           both : AreBoth a b m g of_a of_b
@@ -258,11 +262,15 @@ module _ (a b : Lll) (m : MiterLll) (w : List ℕ) (added latches roots : List S
       let run = r.1.holds.0 in
       let right = r.1.holds.1 in
       let only_a = run_there a.signals a.is_lll.are_signals.lower ins (counted_a of_a of_b run_a.window run_b.window same_long shared) in
-      let same_a : map to_a g ≡ of_a = only_a.1.only (map to_a g) (run_of_a a b m w added latches roots by paired g run,
-          a_inputs of_a of_b run_a.window run_b.window same_long shared g run.window right) ∙ sym (only_a.1.only of_a (run_a, refl)) in
+      let same_a : map to_a g ≡ of_a = only_a.1.only (map to_a g) (
+        run_of_a a b m w added latches roots by paired g run,
+        a_inputs of_a of_b run_a.window run_b.window same_long shared g run.window right,
+      ) ∙ sym (only_a.1.only of_a (run_a, refl)) in
       let only_b = run_there b.signals b.is_lll.are_signals.lower (map (input_values b.signals) of_b) (counted_b of_a of_b run_a.window run_b.window same_long shared) in
-      let same_b : map to_b g ≡ of_b = only_b.1.only (map to_b g) (run_of_b a b m w added latches roots by paired g run,
-          b_inputs of_a of_b run_a.window run_b.window same_long shared g run.window right same_a) ∙ sym (only_b.1.only of_b (run_b, refl)) in
+      let same_b : map to_b g ≡ of_b = only_b.1.only (map to_b g) (
+        run_of_b a b m w added latches roots by paired g run,
+        b_inputs of_a of_b run_a.window run_b.window same_long shared g run.window right same_a,
+      ) ∙ sym (only_b.1.only of_b (run_b, refl)) in
       (g, subst (λ k. IsRun k g) (sym by.signals) run, both of_a of_b run_a.window run_b.window same_long shared g run.window right same_a same_b)
 
   -- ---- windows
@@ -276,17 +284,21 @@ module _ (a b : Lll) (m : MiterLll) (w : List ℕ) (added latches roots : List S
       let same = window.lengths 0 now refl in
       let together : latch_values whole now ≡ u ++ v = cc in
       let parts = append_split (latch_values a.signals (to_a now)) (latch_values b.signals (to_b now)) u v
-          (length-values_where is_latch a.signals (to_a now) (to_a_long now same) ∙ sym count) (sym (latches_both now same) ∙ together) in
+      (length-values_where is_latch a.signals (to_a now) (to_a_long now same) ∙ sym count) (sym (latches_both now same) ∙ together) in
       (ap (λ k. k ∷ []) parts.0, ap (λ k. k ∷ []) parts.1)
 
   pub windows_join : (of_a of_b : Table) → IsWindow a.signals of_a → IsWindow b.signals of_b → length of_a ≡ length of_b
       → ((t : ℕ) (x y : Instant) → slice_get of_a t ≡ Some x → slice_get of_b t ≡ Some y → ShareInputs a b x y)
       → (g : Table) × IsWindow m.lll.signals g × AreBoth a b m g of_a of_b
-  windows_join [] [] window_a window_b same_long shared = ([], IsWindow-none m.lll.signals, record {
-    long_a = refl;
-    long_b = refl;
-    instants = λ t now x y at at_x at_y. absurd (none-some now at);
-  })
+  windows_join [] [] window_a window_b same_long shared = (
+    [],
+    IsWindow-none m.lll.signals,
+    record {
+      long_a = refl;
+      long_b = refl;
+      instants = λ t now x y at at_x at_y. absurd (none-some now at);
+    },
+  )
   windows_join [] (y ∷ ys) window_a window_b same_long shared = absurd (omega (arith, same_long))
   windows_join (x ∷ xs) [] window_a window_b same_long shared = absurd (omega (arith, same_long))
   windows_join (x ∷ xs) (y ∷ ys) window_a window_b same_long shared =
@@ -305,10 +317,16 @@ module _ (a b : Lll) (m : MiterLll) (w : List ℕ) (added latches roots : List S
       let right = r.1.holds.1 in
       let first = first_latches g window i is right u v count_u r.1.holds.2 in
       let only_a = window_there a.signals a.is_lll.are_signals.lower i is u (counted_a of_a of_b window_a window_b same_long shared) count_u in
-      let same_a : map to_a g ≡ of_a = only_a.1.only (map to_a g) (window_of_a a b m w added latches roots by paired g window,
-          a_inputs of_a of_b window_a window_b same_long shared g window right, first.0) ∙ sym (only_a.1.only of_a (window_a, refl, refl)) in
+      let same_a : map to_a g ≡ of_a = only_a.1.only (map to_a g) (
+        window_of_a a b m w added latches roots by paired g window,
+        a_inputs of_a of_b window_a window_b same_long shared g window right,
+        first.0,
+      ) ∙ sym (only_a.1.only of_a (window_a, refl, refl)) in
       let only_b = window_there b.signals b.is_lll.are_signals.lower (input_values b.signals y) (map (input_values b.signals) ys) v
-          (counted_b of_a of_b window_a window_b same_long shared) count_v in
-      let same_b : map to_b g ≡ of_b = only_b.1.only (map to_b g) (window_of_b a b m w added latches roots by paired g window,
-          b_inputs of_a of_b window_a window_b same_long shared g window right same_a, first.1) ∙ sym (only_b.1.only of_b (window_b, refl, refl)) in
+      (counted_b of_a of_b window_a window_b same_long shared) count_v in
+      let same_b : map to_b g ≡ of_b = only_b.1.only (map to_b g) (
+        window_of_b a b m w added latches roots by paired g window,
+        b_inputs of_a of_b window_a window_b same_long shared g window right same_a,
+        first.1,
+      ) ∙ sym (only_b.1.only of_b (window_b, refl, refl)) in
       (g, subst (λ k. IsWindow k g) (sym by.signals) window, both of_a of_b window_a window_b same_long shared g window right same_a same_b)

@@ -1,19 +1,16 @@
 -- Two models have at most one miter.
-use Rattle.std.proofs.Common.{◌≡◌, ℕ, zero, suc, ◌+◌, ◌*◌, ◌%◌, ◌<◌, ◌≤◌, List, [], ◌∷◌, ◌++◌, ◌⊎◌, inl, inr, Some, length, map, All, slice_get, Contains, refl, sym, ap, subst, ◌∙◌, append_assoc, length-append, arith}
-use Rattle.std.proofs.lemmas.List.{append-nil, length-map, map-append}
+use Rattle.std.proofs.Common.{◌≡◌, ℕ, zero, suc, ◌+◌, ◌*◌, ◌<◌, List, [], ◌∷◌, ◌++◌, ◌⊎◌, inl, inr, Some, length, map, All, slice_get, Contains, refl, sym, ap, subst, ◌∙◌, append_assoc, length-append, arith}
+use Rattle.std.proofs.lemmas.List.{length-map, map-append}
 use Rattle.std.proofs.lemmas.List.Elements.{All-head, All-tail, All-weaker}
-use Rattle.std.proofs.lemmas.Option.{none-some, same_Some, slice_get_within}
 use Rattle.lll_core.specs.declared.lll.Lll.{Lll}
 use Rattle.lll_core.specs.declared.signal.Signal.{Signal}
 use Rattle.lll_core.specs.declared.signal.Signal.TheVariants.{One, Input, Latch, Imp, Eqv}
 use Rattle.lll_core.specs.Signals.{signal_of, operands, own_names, signal_names, AreSignals}
-use Rattle.lll_core.proofs.ListLemmas.{slice_get-map_back, slice_get-map_at, place_of, Contains-at}
-use Rattle.lll_core.proofs.ValueLemmas.{order}
+use Rattle.lll_core.proofs.ListLemmas.{slice_get-map_back, slice_get-map_at, Contains-at}
 use Rattle.miter.specs.declared.gates.Gate.{Gate}
 use Rattle.miter.specs.declared.gates.Gate.TheVariants as gate
 use Rattle.miter.specs.declared.parts.MiterLll.{MiterLll}
-use Rattle.miter.specs.Pairs.{IsInputAt, IsLatchAt}
-use Rattle.miter.specs.Miters.{image, marked, IsNewName, IsFirst, IsEarlier, IsAppended, ArePlaced, IsComparison, AreComparisons, comparisons, literals_from, IsMiterBy, AreSame}
+use Rattle.miter.specs.Miters.{image, marked, IsNewName, IsFirst, IsEarlier, IsAppended, ArePlaced, IsComparison, AreComparisons, literals_from, IsMiterBy, AreSame}
 use Rattle.miter.specs.Joining.{gate_signal}
 use Rattle.miter.proofs.JoiningLemmas.{image_more}
 use Rattle.miter.proofs.SignalNames.{one_place}
@@ -168,10 +165,10 @@ module _ (w v : List ℕ) (a : List Signal) (facts : AreSignals a) where
   placed_once past (p ∷ here) (q ∷ others) before later (s ∷ b) added more is is_other same lower placed placed_other =
       let low = lower_first past s b lower in
       let next = λ (e : p ≡ q) (front back : List Signal) (extra rest : List Signal)
-          (same_next : map stripped (a ++ front) ≡ map stripped (a ++ back)) (x : ArePlaced w a front b here extra) (y : ArePlaced v a back b others rest).
-          ap (λ k. k ∷ here) e ∙ ap (λ k. q ∷ k) (placed_once (past ++ p ∷ []) here others front back b extra rest
-          (is ∙ sym (append_assoc past (p ∷ []) here))
-          (is_other ∙ ap (λ k. past ++ k ∷ others) (sym e) ∙ sym (append_assoc past (p ∷ []) others)) same_next (lower_rest past p s b lower) x y) in
+      (same_next : map stripped (a ++ front) ≡ map stripped (a ++ back)) (x : ArePlaced w a front b here extra) (y : ArePlaced v a back b others rest).
+      ap (λ k. k ∷ here) e ∙ ap (λ k. q ∷ k) (placed_once (past ++ p ∷ []) here others front back b extra rest
+      (is ∙ sym (append_assoc past (p ∷ []) here))
+      (is_other ∙ ap (λ k. past ++ k ∷ others) (sym e) ∙ sym (append_assoc past (p ∷ []) others)) same_next (lower_rest past p s b lower) x y) in
       elim placed [
         | inl old ↦ elim placed_other [
           | inl old_other ↦ next (earlier_once past (p ∷ here) (q ∷ others) before later is is_other same s p q low old.0 old_other.0) before later added more same old.1 old_other.1
@@ -229,7 +226,7 @@ module _ (w : List ℕ) (a : List Signal) where
           let same = one_new (a ++ before) s new.0 new_other.0 new.4 new_other.4 in
           new.2 ∙ ap (λ k. k ∷ new.1) same
           ∙ ap (λ k. new_other.0 ∷ k) (added_once (before ++ new_other.0 ∷ []) b here new.1 new_other.1
-              (subst (λ k. ArePlaced w a (before ++ k ∷ []) b here new.1) same new.5) new_other.5)
+          (subst (λ k. ArePlaced w a (before ++ k ∷ []) b here new.1) same new.5) new_other.5)
           ∙ sym new_other.2
     ]
   ]
@@ -255,8 +252,8 @@ module _ (a b : Lll) where
       → IsMiterBy a b m w added latches roots → IsMiterBy a b n v more equal others → AreSame m n
   same_miters m n w v added latches roots more equal others x y =
       let places : w ≡ v = placed_once w v a.signals a.is_lll.are_signals [] w v [] [] b.signals added more refl refl refl
-          (λ k s at. All-weaker (λ z. signal_of z < k) (λ z. signal_of z < length {A = ℕ} [] + k) (λ z lt. omega (arith, lt)) (operands s) (b.is_lll.are_signals.lower k s at))
-          x.placed y.placed in
+      (λ k s at. All-weaker (λ z. signal_of z < k) (λ z. signal_of z < length {A = ℕ} [] + k) (λ z lt. omega (arith, lt)) (operands s) (b.is_lll.are_signals.lower k s at))
+      x.placed y.placed in
       by v places x y
     where
       by : (u : List ℕ) → w ≡ u → IsMiterBy a b m w added latches roots → IsMiterBy a b n u more equal others → AreSame m n
