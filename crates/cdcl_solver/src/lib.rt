@@ -2,14 +2,14 @@
 //! refutes the formula, or a log of as many learnt clauses as the budget allows.
 #![tactic(auto)]
 
+mod analysis;
 mod answer;
 mod law;
+mod literals;
 mod search;
 mod solver;
-#[cfg(test)]
-mod tests;
 mod trail;
-mod values;
+mod watches;
 
 pub use answer::Answer;
 pub use law::busy_logs_are_short;

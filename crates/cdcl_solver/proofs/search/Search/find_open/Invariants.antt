@@ -1,0 +1,8 @@
+use Rattle.std.proofs.Common.{◌≡◌, ◌<◌, ◌≤◌, ℕ, length, get_or}
+use Rattle.std.specs.Prelude.{ℤ, Contains}
+use Rattle.rup_checker.specs.Stores.{clause_at}
+use Rattle.cdcl_solver.specs.Trails.{falses}
+use Rattle.cdcl_solver.proofs.search.Search.find_open.Given as goal
+
+abbrev pub invariant-loop-place : goal.invariant-loop-place
+invariant-loop-place l = (k : ℕ) (d : ℤ) → 2 ≤ k → k < l.place → Contains (falses l.self-inside.trail) (get_or l.clause k d)

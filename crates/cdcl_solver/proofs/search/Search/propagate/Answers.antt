@@ -1,0 +1,7 @@
+use Rattle.std.proofs.Common.{rules, ◌≡◌, ◌∙◌, ◌+◌, ◌-◌, ◌<◌, ◌≤◌, ◌++◌, ◌∷◌, [], ℕ, List, sym, ap, subst, refl, length, get_or, arith, pos, to_z, of_z, w32, Option, None, Some, true, false}
+use Rattle.std.specs.Prelude.{ℤ, Contains}
+use Rattle.cdcl_solver.proofs.Visiting.{goes_on_trans}
+use Rattle.cdcl_solver.proofs.search.Search.propagate.Goals as goal
+
+pub returns-clause-goes_on : goal.returns-clause-goes_on
+returns-clause-goes_on c = goes_on_trans c.args.self.now c.start.new.self c.propagate_started-2.new.self c.in_ok-conflict.ensures.goes_on c.propagate_started-2.ensures.goes_on
