@@ -1,20 +1,21 @@
 -- Clauses that are listed under one of their literals, and which clauses contain them.
-use Rattle.std.proofs.Common.{◌≡◌, ◌<◌, ◌≤◌, ◌+◌, ◌++◌, ◌∷◌, [], ℕ, Bool, true, false, List, ◌⊎◌, inl, inr, sym, subst, ◌∙◌, length, take, arith}
+use Rattle.std.proofs.Common.{◌≡◌, ◌<◌, ◌≤◌, ◌+◌, ◌++◌, ◌∷◌, [], ℕ, suc, Bool, true, false, List, ◌⊎◌, inl, inr, refl, ap, sym, subst, ◌∙◌, length, take, arith}
 use Rattle.std.specs.Prelude.{ℤ, neg_ℤ, All, Any, Contains, IsTrue, MatchBool, not, Some, slice_get, slice_index_or}
 use Rattle.std.proofs.lemmas.Bool.{false≢true}
 use Rattle.std.proofs.lemmas.Bool.Decides.{Decides-eqb}
 use Rattle.std.proofs.lemmas.List.{take_all}
-use Rattle.std.proofs.lemmas.List.Elements.{All-contains, All-nil}
+use Rattle.std.proofs.lemmas.List.Elements.{All-contains, All-nil, All-cons}
 use Rattle.std.proofs.lemmas.Option.{get_or_from_slice_get}
 use Rattle.std.proofs.lemmas.List.{get_or_default, get_or_append_left}
 use Rattle.std.proofs.lemmas.Int.{ints}
 use Rattle.rup_checker.specs.Formulas.{IsLiteral}
 use Rattle.rup_checker.specs.Marks.{LiteralMarks, IsMarked, Marks}
 use Rattle.rup_checker.specs.Logs.{IsNew}
-use Rattle.rup_checker.specs.Occurrences.{Listing, listed, AddsNumber}
+use Rattle.rup_checker.specs.Occurrences.{Listing, head, linked, listed, AddsNumber}
 use Rattle.rup_checker.specs.Stores.{clause_at}
 use Rattle.rup_checker.specs.declared.containment.Anchors.{Anchors}
 use Rattle.rup_checker.specs.Containment.{IsCovered, IsAnchored, AreAnchored}
+use Rattle.rup_checker.proofs.Sets.{member_first, member_later}
 use Rattle.rup_checker.proofs.PropagationLemmas.{holds_or_not}
 
 -- what holds of each element so far, at the end
@@ -124,3 +125,51 @@ anchored_known clauses c anchors a = record {
   anchored = λ n low. subst (λ (d : List ℤ). ((d ≡ []) × IsTrue anchors.has_empty) ⊎ Any (λ l. Contains (listed anchors.occurrences l) n) d) (sym (get_or_append_left clauses (c ∷ []) [] n low)) (a.anchored n low);
   empty = λ noted. let e = a.empty noted in (e.0, e.1, get_or_append_left clauses (c ∷ []) [] e.0 e.1 ∙ e.2);
 }
+
+-- what is left of the list of a literal, from a link on: if a clause in it is covered one of the list is, and if none in
+-- it is then none of the list is
+pub record IsScanned (clauses : List (List ℤ)) (listing : Listing) (marks : LiteralMarks) (l : ℤ) (link : ℕ) : Type 0 where
+  pub found : Any (IsCovered clauses marks) (linked listing link) → Any (IsCovered clauses marks) (listed listing l)
+  pub passed : All (λ n. ¬ (IsCovered clauses marks n)) (linked listing link) → All (λ n. ¬ (IsCovered clauses marks n)) (listed listing l)
+  pub within : (n : ℕ) → Contains (linked listing link) n → n < length clauses
+
+-- nothing is scanned yet
+pub scanned_none : (clauses : List (List ℤ)) (anchors : Anchors) (marks : LiteralMarks) (l : ℤ) (link : ℕ) → AreAnchored clauses (length clauses) anchors → IsLiteral anchors.occurrences.variables l → link ≡ head anchors.occurrences l → IsScanned clauses anchors.occurrences marks l link
+scanned_none clauses anchors marks l link a known is = record {
+  found = subst (Any (IsCovered clauses marks)) same;
+  passed = subst (All (λ n. ¬ (IsCovered clauses marks n))) same;
+  within = λ n there. a.within l n known (subst (λ (xs : List ℕ). Contains xs n) same there);
+}
+  where
+    same : linked anchors.occurrences link ≡ listed anchors.occurrences l
+    same = ap (linked anchors.occurrences) is
+
+-- the next clause is not covered
+pub scanned_next : (clauses : List (List ℤ)) (listing : Listing) (marks : LiteralMarks) (l : ℤ) (link n rest : ℕ) → IsScanned clauses listing marks l link → linked listing link ≡ n ∷ linked listing rest → ¬ (IsCovered clauses marks n) → IsScanned clauses listing marks l rest
+scanned_next clauses listing marks l link n rest s next free = record {
+  found = λ (i, k, within, is, covered). s.found (subst (Any (IsCovered clauses marks)) (sym next) (suc i, k, omega (arith, within), is, covered));
+  passed = λ all. s.passed (subst (All (λ n. ¬ (IsCovered clauses marks n))) (sym next) (All-cons (λ n. ¬ (IsCovered clauses marks n)) n (linked listing rest) free all));
+  within = λ k there. s.within k (subst (λ (xs : List ℕ). Contains xs k) (sym next) (member_later n (linked listing rest) k there));
+}
+
+-- the next clause is one of those that are known
+pub scanned_within : (clauses : List (List ℤ)) (listing : Listing) (marks : LiteralMarks) (l : ℤ) (link n rest : ℕ) → IsScanned clauses listing marks l link → linked listing link ≡ n ∷ linked listing rest → n < length clauses
+scanned_within clauses listing marks l link n rest s next = s.within n (subst (λ (xs : List ℕ). Contains xs n) (sym next) (member_first n (linked listing rest)))
+
+-- the next clause is covered
+pub scanned_found : (clauses : List (List ℤ)) (listing : Listing) (marks : LiteralMarks) (l : ℤ) (link n rest : ℕ) → IsScanned clauses listing marks l link → linked listing link ≡ n ∷ linked listing rest → IsCovered clauses marks n → Any (IsCovered clauses marks) (listed listing l)
+scanned_found clauses listing marks l link n rest s next covered =
+    s.found (subst (Any (IsCovered clauses marks)) (sym next) (0, n, omega arith, refl, covered))
+
+-- the list is scanned to its end
+pub scanned_all : (clauses : List (List ℤ)) (listing : Listing) (marks : LiteralMarks) (l : ℤ) (link : ℕ) → IsScanned clauses listing marks l link → linked listing link ≡ [] → All (λ n. ¬ (IsCovered clauses marks n)) (listed listing l)
+scanned_all clauses listing marks l link s none = s.passed (subst (All (λ n. ¬ (IsCovered clauses marks n))) (sym none) (All-nil _))
+
+-- a clause whose literals are all in range and marked is covered
+pub covered_where : (clauses : List (List ℤ)) (marks : LiteralMarks) (n : ℕ) (c : List ℤ) → slice_get clauses n ≡ Some c → All (IsLiteral marks.variables) c → All (IsMarked marks) c → IsCovered clauses marks n
+covered_where clauses marks n c at range marked =
+    subst (All (λ l. IsLiteral marks.variables l × IsMarked marks l)) (sym (get_or_from_slice_get clauses n c [] at)) (λ k d within. (range k d within, marked k d within))
+
+-- and a covered one has all its literals marked
+pub covered_marked : (clauses : List (List ℤ)) (marks : LiteralMarks) (n : ℕ) (c : List ℤ) → slice_get clauses n ≡ Some c → IsCovered clauses marks n → All (IsMarked marks) c
+covered_marked clauses marks n c at covered = subst (All (IsMarked marks)) (get_or_from_slice_get clauses n c [] at) (λ k d within. (covered k d within).1)

@@ -10,7 +10,7 @@ use Rattle.rup_checker.specs.declared.fault.StepFault.TheVariants as fault
 use Rattle.rup_checker.specs.Formulas.{IsLiteral}
 use Rattle.rup_checker.specs.Steps.{IsAllFalse, IsUnit, Propagates, Refutes, Stops, IsPrevented}
 use Rattle.rup_checker.specs.Marks.{LiteralMarks, IsMarked, Marks, HasTwoLeft, IsHinted}
-use Rattle.rup_checker.proofs.Standings.{Contains-take}
+use Rattle.rup_checker.proofs.Statuses.{Contains-take}
 use Rattle.rup_checker.proofs.Sets.{has_value, same_or_not, Inserts, marks-cons}
 
 -- one hint more that is unit

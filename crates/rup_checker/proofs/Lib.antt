@@ -1,5 +1,6 @@
 pub mod Pieces
-pub mod Standings
+pub mod Chains
+pub mod Statuses
 pub mod Places
 pub mod PropagationLemmas
 pub mod TrailLemmas

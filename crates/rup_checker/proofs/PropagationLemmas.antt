@@ -1,5 +1,5 @@
 -- Unit propagation: what it takes false, and when it has ended.
-use Rattle.std.proofs.Common.{◌≡◌, ◌↔◌, ◌<◌, ◌≤◌, ◌+◌, ◌++◌, ◌∷◌, [], ℕ, zero, suc, Bool, true, false, List, ◌⊎◌, inl, inr, refl, sym, ap, subst, ◌∙◌, length, length-append, drop, add-one, drop-cons, get_or, arith}
+use Rattle.std.proofs.Common.{◌≡◌, ◌↔◌, ◌<◌, ◌≤◌, ◌+◌, ◌++◌, ◌∷◌, [], ℕ, zero, suc, Bool, true, false, List, ◌⊎◌, inl, inr, refl, sym, ap, subst, ◌∙◌, length, length-append, arith}
 use Rattle.std.specs.Prelude.{ℤ, neg_ℤ, Some, Contains, IsSomeAnd, slice_get, slice_index_or}
 use Rattle.std.specs.Bool.{Decides}
 use Rattle.std.proofs.lemmas.Bool.{false≢true}
@@ -12,7 +12,7 @@ use Rattle.rup_checker.specs.Steps.{IsAllFalse, IsUnit, Propagates}
 use Rattle.rup_checker.specs.Logs.{IsQuiet, IsOpen, IsComplete}
 use Rattle.rup_checker.specs.Marks.{HasTwoLeft}
 use Rattle.rup_checker.specs.Occurrences.{Listing, listed, ListsAll}
-use Rattle.rup_checker.specs.Closing.{IsRefuted, IsReached, TrailState, waiting, IsVisited, IsSettled}
+use Rattle.rup_checker.specs.Closing.{IsRefuted, IsReached, TrailState, waiting, IsVisited, IsQuietBut}
 use Rattle.rup_checker.specs.Stores.{clause_at}
 
 -- what a test decides holds or doesn't
@@ -126,8 +126,8 @@ pub waiting-push : (t : TrailState) (l : ℤ) → t.followed ≤ length t.taken 
 waiting-push t l within = drop-append-le t.followed t.taken (l ∷ []) within
 
 -- one more clause is seen
-pub settled_visited : (clauses : List (List ℤ)) (Before After : ℕ → Type 0) (old new : TrailState) (n : ℕ) (c : List ℤ) → slice_get clauses n ≡ Some c → ((k : ℕ) → ¬ (After k) → (¬ (Before k)) ⊎ (k ≡ n)) → IsSettled clauses Before old → IsVisited old new c → IsSettled clauses After new
-settled_visited clauses Before After old new n c at narrows s (inl (same, quiet)) = subst (IsSettled clauses After) (sym same) (record {
+pub quiet_but_visited : (clauses : List (List ℤ)) (Before After : ℕ → Type 0) (old new : TrailState) (n : ℕ) (c : List ℤ) → slice_get clauses n ≡ Some c → ((k : ℕ) → ¬ (After k) → (¬ (Before k)) ⊎ (k ≡ n)) → IsQuietBut clauses Before old → IsVisited old new c → IsQuietBut clauses After new
+quiet_but_visited clauses Before After old new n c at narrows s (inl (same, quiet)) = subst (IsQuietBut clauses After) (sym same) (record {
   reached = s.reached;
   within = s.within;
   quiet = λ k inside seen none. elim (narrows k seen) [
@@ -135,7 +135,7 @@ settled_visited clauses Before After old new n c at narrows s (inl (same, quiet)
     | inr is ↦ subst (λ m. IsQuiet (Contains old.taken) (clause_at clauses m)) (sym is) (subst (IsQuiet (Contains old.taken)) (sym (get_or_from_slice_get clauses n c [] at)) quiet)
   ];
 })
-settled_visited clauses Before After old new n c at narrows s (inr (l, unit, same)) = subst (IsSettled clauses After) (sym same) (record {
+quiet_but_visited clauses Before After old new n c at narrows s (inr (l, unit, same)) = subst (IsQuietBut clauses After) (sym same) (record {
   reached = reached_more clauses old.taken n c l s.reached at unit;
   within = let was : old.followed ≤ length old.taken = s.within in omega (arith, length-append old.taken (neg_ℤ l ∷ []));
   quiet = λ k inside seen none. elim (narrows k seen) [
@@ -192,8 +192,8 @@ open_where_complete clauses Taken done hints r = (quiet at.0 at.1).0 (λ k d bou
     quiet c is = subst (IsQuiet Taken) (get_or_from_slice_get clauses r.last c [] is) (done r.last [] (slice_get_within clauses r.last c is))
 
 -- nothing waits and nothing is unseen
-pub settled_open : (clauses : List (List ℤ)) (trail : TrailState) → IsSettled clauses (λ _. ⊥) trail → waiting trail ≡ [] → IsOpen clauses
-settled_open clauses trail s none = open_where_complete clauses (Contains trail.taken) (λ n d within. subst (IsQuiet (Contains trail.taken)) (same n d within) (s.quiet n within (λ h. h) (λ l there waits. nothing l (subst (λ (w : List ℤ). Contains w l) none waits))))
+pub quiet_but_open : (clauses : List (List ℤ)) (trail : TrailState) → IsQuietBut clauses (λ _. ⊥) trail → waiting trail ≡ [] → IsOpen clauses
+quiet_but_open clauses trail s none = open_where_complete clauses (Contains trail.taken) (λ n d within. subst (IsQuiet (Contains trail.taken)) (same n d within) (s.quiet n within (λ h. h) (λ l there waits. nothing l (subst (λ (w : List ℤ). Contains w l) none waits))))
   where
     nothing : (l : ℤ) → ¬ (Contains [] l)
     nothing l h = let bound : h.0 < 0 = h.1 in absurd (omega arith)
@@ -202,16 +202,16 @@ settled_open clauses trail s none = open_where_complete clauses (Contains trail.
     same n d within = get_or_default clauses n [] d within
 
 -- nothing is taken and nothing is seen
-pub settled_first : (clauses : List (List ℤ)) (trail : TrailState) → trail.taken ≡ [] → trail.followed ≡ 0 → IsSettled clauses (λ k. 0 ≤ k) trail
-settled_first clauses trail none first = record {
+pub quiet_but_first : (clauses : List (List ℤ)) (trail : TrailState) → trail.taken ≡ [] → trail.followed ≡ 0 → IsQuietBut clauses (λ k. 0 ≤ k) trail
+quiet_but_first clauses trail none first = record {
   reached = subst (IsReached clauses) (sym none) (reached_none clauses);
   within = omega arith;
   quiet = λ n inside seen _. absurd (seen (omega arith));
 }
 
 -- fewer clauses are unseen than was said
-pub settled_fewer : (clauses : List (List ℤ)) (Before After : ℕ → Type 0) (trail : TrailState) → ((k : ℕ) → k < length clauses → ¬ (Before k)) → IsSettled clauses Before trail → IsSettled clauses After trail
-settled_fewer clauses Before After trail seen s = record {
+pub quiet_but_fewer : (clauses : List (List ℤ)) (Before After : ℕ → Type 0) (trail : TrailState) → ((k : ℕ) → k < length clauses → ¬ (Before k)) → IsQuietBut clauses Before trail → IsQuietBut clauses After trail
+quiet_but_fewer clauses Before After trail seen s = record {
   reached = s.reached;
   within = s.within;
   quiet = λ n inside _ none. s.quiet n inside (seen n inside) none;
@@ -222,22 +222,27 @@ pub one_less : (n k : ℕ) → ¬ (n + 1 ≤ k) → (¬ (n ≤ k)) ⊎ (k ≡ n)
 one_less n k later = elim (holds_or_not _ (Decides-eqb k n)) [ inl is ↦ inr is | inr differ ↦ inl (λ (h : n ≤ k). later (omega (arith, differ))) ]
 
 -- the clauses of a list: one more is seen
-pub one_less_listed : (numbers : List ℕ) (i : ℕ) (d k : ℕ) → i < length numbers → ¬ (Contains (drop (i + 1) numbers) k) → (¬ (Contains (drop i numbers) k)) ⊎ (k ≡ get_or numbers i d)
-one_less_listed numbers i d k within later = elim (holds_or_not _ (Decides-eqb k (get_or numbers i d))) [
+pub one_less_listed : (n : ℕ) (rest : List ℕ) (k : ℕ) → ¬ (Contains rest k) → (¬ (Contains (n ∷ rest) k)) ⊎ (k ≡ n)
+one_less_listed n rest k later = elim (holds_or_not _ (Decides-eqb k n)) [
   | inl is ↦ inr is
-  | inr differ ↦ inl (λ there. elim (member_cases (get_or numbers i d) (drop (i + 1) numbers) k (subst (λ (xs : List ℕ). Contains xs k) split there)) [ inl is ↦ differ (sym is) | inr rest ↦ later rest ])
+  | inr differ ↦ inl (λ there. elim (member_cases n rest k there) [ inl is ↦ differ (sym is) | inr after ↦ later after ])
 ]
-  where
-    split : drop i numbers ≡ get_or numbers i d ∷ drop (i + 1) numbers
-    split = rw (add-one, drop-cons numbers i d) refl
 
 -- the next literal is followed up: the clauses with that literal are unseen
-pub settled_next : (clauses : List (List ℤ)) (listing : Listing) (old new : TrailState) (l : ℤ) → ListsAll clauses (length clauses) listing → IsSettled clauses (λ _. ⊥) old → waiting old ≡ l ∷ waiting new → new.taken ≡ old.taken → new.followed ≡ old.followed + 1 → IsSettled clauses (Contains (listed listing l)) new
-settled_next clauses listing old new l lists s next same further = record {
+pub quiet_but_next : (clauses : List (List ℤ)) (old new : TrailState) (l : ℤ) → IsQuietBut clauses (λ _. ⊥) old → waiting old ≡ l ∷ waiting new → new.taken ≡ old.taken → new.followed ≡ old.followed + 1 → IsQuietBut clauses (λ n. Contains (clause_at clauses n) l) new
+quiet_but_next clauses old new l s next same further = record {
   reached = subst (IsReached clauses) (sym same) s.reached;
   within = omega (arith, ap length next, length-drop old.followed old.taken, ap length same);
   quiet = λ n inside out none. subst (λ (t : List ℤ). IsQuiet (Contains t) (clause_at clauses n)) (sym same) (s.quiet n inside (λ h. h) (λ m there waits. elim (member_cases l (waiting new) m (subst (λ (w : List ℤ). Contains w m) next waits)) [
-    | inl is ↦ out (All-contains (λ k. Contains (listed listing k) n) (clause_at clauses n) l (lists.all n inside) (subst (Contains (clause_at clauses n)) (sym is) there))
+    | inl is ↦ out (subst (Contains (clause_at clauses n)) (sym is) there)
     | inr later ↦ none m there later
   ]));
+}
+
+-- the clauses with a literal are listed under it: those that are not listed are seen
+pub quiet_but_listed : (clauses : List (List ℤ)) (listing : Listing) (trail : TrailState) (l : ℤ) → ListsAll clauses (length clauses) listing → IsQuietBut clauses (λ n. Contains (clause_at clauses n) l) trail → IsQuietBut clauses (Contains (listed listing l)) trail
+quiet_but_listed clauses listing trail l lists s = record {
+  reached = s.reached;
+  within = s.within;
+  quiet = λ n inside out none. s.quiet n inside (λ there. out (All-contains (λ k. Contains (listed listing k) n) (clause_at clauses n) l (lists.all n inside) there)) none;
 }

@@ -10,7 +10,7 @@ use Rattle.std.proofs.lemmas.Bool.Decides.{Decides-int_eq}
 use Rattle.std.proofs.lemmas.List.Elements.{Contains-push, Contains-push_cases, Contains-append_left, Contains-append_right, Contains-append_cases}
 use Rattle.rup_checker.specs.Formulas.{IsLiteral}
 use Rattle.rup_checker.specs.Marks.{LiteralMarks, IsMarked, Marks}
-use Rattle.rup_checker.proofs.Standings.{false_alarm}
+use Rattle.rup_checker.proofs.Statuses.{false_alarm}
 
 -- two numbers are equal or not
 pub same_or_not : (x y : ℤ) → (x ≡ y) ⊎ (x ≢ y)

@@ -6,9 +6,9 @@ use Rattle.std.proofs.lemmas.List.Elements.{All-push, All-contains, Contains-get
 use Rattle.std.proofs.lemmas.List.Quantifiers.{all_pairs_push}
 use Rattle.rup_checker.specs.Formulas.{IsLiteral}
 use Rattle.rup_checker.specs.Steps.{IsUnit}
-use Rattle.rup_checker.specs.declared.standing.Standing.{Standing}
-use Rattle.rup_checker.specs.declared.standing.Standing.TheVariants as standing
-use Rattle.rup_checker.specs.Marks.{LiteralMarks, IsMarked, HasTwoLeft, Stands}
+use Rattle.rup_checker.specs.declared.status.Status.{Status}
+use Rattle.rup_checker.specs.declared.status.Status.TheVariants as status
+use Rattle.rup_checker.specs.Marks.{LiteralMarks, IsMarked, HasTwoLeft, HasStatus}
 use Rattle.rup_checker.specs.Closing.{IsTrail, TrailState, IsVisited}
 use Rattle.rup_checker.proofs.PropagationLemmas.{holds_or_not, quiet_open, quiet_unit}
 
@@ -28,14 +28,14 @@ trail_more old new literals l trail known free same itself others = record {
     old_marked m was there = elim (holds_or_not _ (Decides-int_eq m l)) [ inl is ↦ subst (IsMarked new) (sym is) itself | inr differ ↦ (others m was differ).1 ((trail.marked m was).1 there) ]
 
 -- how a clause stands depends only on which of its literals are false
-pub Stands-same : (P Q : ℤ → Type 0) (c : List ℤ) → ((l : ℤ) → Contains c l → P l ↔ Q l) → (how : Standing) → Stands P c how → Stands Q c how
-Stands-same P Q c same standing.False all = λ k d within. (same (slice_index_or c k d) (Contains-get_or c k d within)).0 (all k d within)
-Stands-same P Q c same (standing.Unit l) unit = record {
+pub HasStatus-same : (P Q : ℤ → Type 0) (c : List ℤ) → ((l : ℤ) → Contains c l → P l ↔ Q l) → (how : Status) → HasStatus P c how → HasStatus Q c how
+HasStatus-same P Q c same status.False all = λ k d within. (same (slice_index_or c k d) (Contains-get_or c k d within)).0 (all k d within)
+HasStatus-same P Q c same (status.Unit l) unit = record {
   stands = unit.stands;
   left = λ q. unit.left ((same l unit.stands).1 q);
   alone = λ m there free. unit.alone m there (λ p. free ((same m there).0 p));
 }
-Stands-same P Q c same standing.Open two = record {
+HasStatus-same P Q c same status.Open two = record {
   one = two.one;
   other = two.other;
   one_stands = two.one_stands;
@@ -46,13 +46,13 @@ Stands-same P Q c same standing.Open two = record {
 }
 
 -- by marks or by the list of those that are taken false
-pub Stands-trail : (marks : LiteralMarks) (literals : List ℤ) (c : List ℤ) (how : Standing) → IsTrail marks literals → All (IsLiteral marks.variables) c → Stands (IsMarked marks) c how → Stands (Contains literals) c how
-Stands-trail marks literals c how trail known stands = Stands-same (IsMarked marks) (Contains literals) c (λ l there. trail.marked l (All-contains (IsLiteral marks.variables) c l known there)) how stands
+pub HasStatus-trail : (marks : LiteralMarks) (literals : List ℤ) (c : List ℤ) (how : Status) → IsTrail marks literals → All (IsLiteral marks.variables) c → HasStatus (IsMarked marks) c how → HasStatus (Contains literals) c how
+HasStatus-trail marks literals c how trail known stands = HasStatus-same (IsMarked marks) (Contains literals) c (λ l there. trail.marked l (All-contains (IsLiteral marks.variables) c l known there)) how stands
 
 -- the same as contracts see the trail
-pub Stands-now : (t : TrailState) (marks : LiteralMarks) (literals : List ℤ) (c : List ℤ) (how : Standing) → marks.variables ≡ t.variables → literals ≡ t.taken → IsTrail marks literals → All (IsLiteral t.variables) c → Stands (IsMarked marks) c how → Stands (Contains t.taken) c how
-Stands-now t marks literals c how same taken trail known stands = subst (λ (ls : List ℤ). Stands (Contains ls) c how) taken
-    (Stands-trail marks literals c how trail (subst (λ (n : ℕ). All (IsLiteral n) c) (sym same) known) stands)
+pub HasStatus-now : (t : TrailState) (marks : LiteralMarks) (literals : List ℤ) (c : List ℤ) (how : Status) → marks.variables ≡ t.variables → literals ≡ t.taken → IsTrail marks literals → All (IsLiteral t.variables) c → HasStatus (IsMarked marks) c how → HasStatus (Contains t.taken) c how
+HasStatus-now t marks literals c how same taken trail known stands = subst (λ (ls : List ℤ). HasStatus (Contains ls) c how) taken
+    (HasStatus-trail marks literals c how trail (subst (λ (n : ℕ). All (IsLiteral n) c) (sym same) known) stands)
 
 -- a clause is looked at of which two literals are left
 pub visited_open : (t : TrailState) (c : List ℤ) → HasTwoLeft (Contains t.taken) c → IsVisited t t c

@@ -1,8 +1,9 @@
 -- Unit propagation from nothing, to its end.
 use Rattle.std.specs.Prelude.{◌≡◌, ◌≢◌, ◌↔◌, ◌<◌, ◌≤◌, ◌⊎◌, ◌++◌, ◌∷◌, [], ℕ, ℤ, neg_ℤ, Bool, List, length, drop, All, AllPairs, Contains, MatchBool}
-use Rattle.rup_checker.specs.Formulas.{IsLiteral}
+use Rattle.rup_checker.specs.Formulas.{Cnf, IsLiteral}
 use Rattle.rup_checker.specs.Marks.{LiteralMarks, Marks}
 use Rattle.rup_checker.specs.Stores.{clause_at}
+use Rattle.rup_checker.specs.Occurrences.{Listing, ListsAll}
 use Rattle.rup_checker.specs.Steps.{IsUnit, Propagates, Refutes}
 use Rattle.rup_checker.specs.Logs.{IsQuiet}
 
@@ -42,13 +43,24 @@ IsVisited old new clause =
 
 -- unit propagation takes the literals of the trail false, and every clause is quiet but for those not yet seen and
 -- those with a literal that is still to be followed up
-pub record IsSettled (clauses : List (List ℤ)) (Unseen : ℕ → Type 0) (trail : TrailState) : Type 0 where
+pub record IsQuietBut (clauses : List (List ℤ)) (Unseen : ℕ → Type 0) (trail : TrailState) : Type 0 where
   pub reached : IsReached clauses trail.taken
   pub within : trail.followed ≤ length trail.taken
   pub quiet : (n : ℕ) → n < length clauses → ¬ (Unseen n) →
       ((l : ℤ) → Contains (clause_at clauses n) l → ¬ (Contains (waiting trail) l)) →
       IsQuiet (Contains trail.taken) (clause_at clauses n)
 
+-- a propagation over known clauses
+pub record Propagating : Type 0 where
+  pub known : Cnf
+  pub trail : TrailState
+
+-- each known clause is listed under each of its literals
+pub record IsPropagation (known : Cnf) (listing : Listing) (trail : TrailState) : Type 0 where
+  pub variables : trail.variables ≡ known.variables
+  pub listed : listing.variables ≡ known.variables
+  pub all : ListsAll known.clauses (length known.clauses) listing
+
 -- a false clause was met, or the propagation goes on, with the clauses that are then unseen
 abbrev pub GoesOn : List (List ℤ) → (ℕ → Type 0) → TrailState → Bool → Type 0
-GoesOn clauses Unseen trail conflict = MatchBool conflict (IsRefuted clauses) (IsSettled clauses Unseen trail)
+GoesOn clauses Unseen trail conflict = MatchBool conflict (IsRefuted clauses) (IsQuietBut clauses Unseen trail)

@@ -1,11 +1,15 @@
 -- Formulas in conjunctive normal form, and what satisfies them.
-use Rattle.std.specs.Prelude.{◌≡◌, ℕ, ◌-◌, ◌≤◌, Bool, true, false, not, ℤ, pos, negsuc, suc, nat_abs, List, All, Any, slice_index_or}
+use Rattle.std.specs.Prelude.{◌≡◌, ℕ, ◌-◌, ◌≤◌, ◌++◌, Bool, true, false, not, ℤ, pos, negsuc, suc, nat_abs, List, All, Any, slice_index_or}
 
 -- what a formula says: how many variables it has, and its clauses in order, each a list of literals;
 -- the literal v is the variable v, and -v its negation
 pub record Cnf : Type 0 where
   pub variables : ℕ
   pub clauses : List (List ℤ)
+
+-- the formula with these clauses after its own
+abbrev pub extended : Cnf → List (List ℤ) → Cnf
+extended f more = record f { clauses = f.clauses ++ more }
 
 -- a literal of one of the variables 1 to n
 pub record IsLiteral (n : ℕ) (l : ℤ) : Type 0 where

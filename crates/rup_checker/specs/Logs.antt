@@ -1,4 +1,4 @@
--- Logs of steps: accepted ones, busy ones, and ones that strengthen unit propagation.
+-- Logs of steps: accepted ones, busy ones, and 1-empowering steps.
 use Rattle.std.specs.Prelude.{◌≡◌, ◌≢◌, ◌<◌, ℕ, ℤ, neg_ℤ, List, [], ◌∷◌, ◌++◌, length, map, take, All, Contains, IsSomeAnd, slice_get, ⊤}
 use Rattle.rup_checker.specs.declared.fault.LogFault.{LogFault}
 use Rattle.rup_checker.specs.declared.fault.LogFault.TheVariants as fault
@@ -72,9 +72,9 @@ IsQuiet Taken clause = (¬ (IsAllFalse Taken clause)) × ((l : ℤ) → IsUnit T
 abbrev pub IsComplete : List (List ℤ) → (ℤ → Type 0) → Type 0
 IsComplete clauses Taken = All (IsQuiet Taken) clauses
 
--- the clause makes unit propagation stronger: with all its other literals false, propagation ended before the
+-- the clause is 1-empowering, it makes unit propagation stronger: with all its other literals false, propagation ended before the
 -- clause was there and left one literal of it without a value, which the clause now makes true
-pub record Strengthens (clauses : List (List ℤ)) (clause : List ℤ) : Type 0 where
+pub record IsOneEmpowering (clauses : List (List ℤ)) (clause : List ℤ) : Type 0 where
   pub literal : ℤ
   pub taken : List ℤ
   pub stands : Contains clause literal
@@ -83,6 +83,6 @@ pub record Strengthens (clauses : List (List ℤ)) (clause : List ℤ) : Type 0 
   pub free : (¬ (Contains taken literal)) × (¬ (Contains taken (neg_ℤ literal)))
   pub complete : IsComplete clauses (Contains taken)
 
--- each step makes unit propagation stronger
+-- each step is 1-empowering
 abbrev pub Grows : Cnf → List Step → Type 0
-Grows f steps = Each (λ clauses s. Strengthens clauses s.clause) f steps
+Grows f steps = Each (λ clauses s. IsOneEmpowering clauses s.clause) f steps

@@ -1,7 +1,7 @@
 -- Sets of literals, kept as a mark for each literal, and how a clause stands to such a set.
 use Rattle.std.specs.Prelude.{◌≡◌, ◌≢◌, ◌↔◌, ℕ, ℤ, pos, ◌+ℤ◌, nat_abs, Bool, true, false, List, Contains, IsSomeAnd, slice_get, slice_index_or}
-use Rattle.rup_checker.specs.declared.standing.Standing.{Standing}
-use Rattle.rup_checker.specs.declared.standing.Standing.TheVariants as standing
+use Rattle.rup_checker.specs.declared.status.Status.{Status}
+use Rattle.rup_checker.specs.declared.status.Status.TheVariants as status
 use Rattle.rup_checker.specs.Formulas.{IsLiteral}
 use Rattle.rup_checker.specs.Steps.{IsAllFalse, IsUnit}
 
@@ -37,10 +37,10 @@ pub record HasTwoLeft (Taken : ℤ → Type 0) (clause : List ℤ) : Type 0 wher
   pub differ : one ≢ other
 
 -- how a clause stands to the literals that are taken false
-abbrev pub Stands : (ℤ → Type 0) → List ℤ → Standing → Type 0
-Stands Taken clause standing.False = IsAllFalse Taken clause
-Stands Taken clause (standing.Unit l) = IsUnit Taken clause l
-Stands Taken clause standing.Open = HasTwoLeft Taken clause
+abbrev pub HasStatus : (ℤ → Type 0) → List ℤ → Status → Type 0
+HasStatus Taken clause status.False = IsAllFalse Taken clause
+HasStatus Taken clause (status.Unit l) = IsUnit Taken clause l
+HasStatus Taken clause status.Open = HasTwoLeft Taken clause
 
 -- the literal stands in a clause that a hint names
 abbrev pub IsHinted : List (List ℤ) → List ℕ → ℤ → Type 0

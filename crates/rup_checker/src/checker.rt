@@ -1,48 +1,52 @@
-ghost use Rattle.std.specs.Prelude.{◌≡◌, ◌+◌, ◌<◌, ◌≤◌, ◌++◌, ◌∷◌, [], ◌⊎◌, IfOk, OnOk, OnErr, All, length};
+ghost use Rattle.std.specs.Prelude.{◌≡◌, ◌+◌, ◌<◌, ◌≤◌, ◌++◌, ◌∷◌, [], IfOk, OnOk, OnErr, All, length};
 ghost use Rattle.rup_checker.specs.Formulas.{IsLiteral};
-ghost use Rattle.rup_checker.specs.Steps.{IsAccepted, IsAnswered};
+ghost use Rattle.rup_checker.specs.Steps.{IsAnswered};
 
+use crate::derivation::Derivation;
 use crate::fault::StepFault;
 use crate::formula::Formula;
-use crate::hints::{first_outside, follow, release, take_false};
-use crate::known::KnownClauses;
-use crate::marks::LiteralSet;
 use std::alloc::{AllocError, Global};
 use std::marker::Model;
 
-/// A checker of steps over a formula. Contracts see it as its variables, its clauses (those of the formula followed by
-/// those of the accepted steps) and the steps and literals that it has memory for.
+/// A checker of steps over a formula, which it owns. Contracts see it as its variables, its clauses (those of the
+/// formula followed by those of the accepted steps) and the steps and literals that it has memory for.
 #[derive(Debug, Drop)]
-pub struct Checker<'a> {
-    known: KnownClauses<'a>,
-    /// The literals that are taken false while a step is looked at: none between two steps.
-    taken: LiteralSet,
+pub struct Checker {
+    formula: Formula,
+    derivation: Derivation,
 }
 
-impl<'a> Model for Checker<'a> {
+impl Model for Checker {
     ghost use Rattle.std.specs.Prelude.{◌≡◌};
-    ghost use Rattle.rup_checker.specs.Stores.{Known};
-    ghost use Rattle.rup_checker.specs.Marks.{IsClear};
+    ghost use Rattle.rup_checker.specs.Stores.{Known, known_with};
 
     ghost Value = { Known };
 
-    ghost view = { λ c. c.known };
+    ghost view = { λ c. known_with c.formula c.derivation.added };
 
-    ghost invariant = { λ c. (c.taken.variables ≡ c.known.variables) × IsClear c.taken };
+    ghost invariant = { λ c. c.derivation.variables ≡ c.formula.variables };
 }
 
-impl<'a> Checker<'a> {
-    /// A checker that knows the clauses of the formula. It takes memory for a mark for each literal of the formula's
-    /// variables.
-    pub fn new(alloc: Global, formula: &'a Formula) -> Result<Checker<'a>, AllocError>
+impl Checker {
+    /// A checker of a copy of the formula.
+    pub fn new(alloc: Global, formula: &Formula) -> Result<Checker, AllocError>
         ensures variables { IfOk result (λ c. c.variables ≡ formula.now.variables) }
         ensures clauses { IfOk result (λ c. c.clauses ≡ formula.now.clauses) }
         ensures in_range { All (All (IsLiteral formula.now.variables)) formula.now.clauses }
     {
-        let taken = LiteralSet::new(alloc, formula.variables())?;
+        let _ = formula.variables();
+        Checker::owning(alloc, formula.copy(alloc)?)
+    }
+
+    /// A checker of this formula. It takes memory for a mark for each literal of the formula's variables.
+    pub fn owning(alloc: Global, formula: Formula) -> Result<Checker, AllocError>
+        ensures variables { IfOk result (λ c. c.variables ≡ formula.variables) }
+        ensures clauses { IfOk result (λ c. c.clauses ≡ formula.clauses) }
+    {
+        let derivation = Derivation::new(alloc, formula.variables())?;
         Ok(Checker {
-            known: KnownClauses::new(alloc, formula),
-            taken,
+            formula,
+            derivation,
         })
     }
 
@@ -55,14 +59,7 @@ impl<'a> Checker<'a> {
         ensures variables { self.new.variables ≡ self.old.variables }
         ensures same { self.new.clauses ≡ self.old.clauses }
     {
-        self.known.reserve(steps as usize, literals as usize)
-    }
-
-    /// The clauses that it knows.
-    pub(crate) fn known(&self) -> &KnownClauses<'a>
-        ensures { result.now ≡ self.now }
-    {
-        &self.known
+        self.derivation.reserve(steps as usize, literals as usize)
     }
 
     /// Adds a clause that follows by its hints, which are numbers of clauses that it knows. A step costs the literals of
@@ -79,16 +76,6 @@ impl<'a> Checker<'a> {
         ensures steps_kept { OnErr result (self.old.spare_steps ≤ self.new.spare_steps) }
         ensures literals_kept { OnErr result (self.old.spare_literals ≤ self.new.spare_literals) }
     {
-        if let Some(literal) = first_outside(self.known.variables(), clause) {
-            return Err(StepFault::Literal(literal));
-        }
-        take_false(&mut self.taken, clause);
-        let followed = follow(&self.known, &mut self.taken, hints);
-        release(&self.known, &mut self.taken, clause, hints);
-        followed?;
-        match self.known.push(clause) {
-            Ok(()) => Ok(()),
-            Err(_) => Err(StepFault::Memory),
-        }
+        self.derivation.step(&self.formula, clause, hints)
     }
 }

@@ -4,14 +4,15 @@ ghost use Rattle.std.specs.Prelude.{◌≡◌, ◌+◌, ◌*◌, ◌<◌, ◌≤
 ghost use Rattle.rup_checker.specs.Formulas.{IsLiteral};
 ghost use Rattle.rup_checker.specs.Steps.{IsAllFalse};
 ghost use Rattle.rup_checker.specs.Logs.{IsComplete, IsOpen};
-ghost use Rattle.rup_checker.specs.Closing.{IsRefuted, IsSettled, IsVisited, GoesOn, waiting};
-ghost use Rattle.rup_checker.specs.Occurrences.{ListsAll, listed};
+ghost use Rattle.rup_checker.specs.Closing.{IsRefuted, IsQuietBut, IsVisited, GoesOn, waiting};
+ghost use Rattle.rup_checker.specs.Occurrences.{ListsAll};
+ghost use Rattle.rup_checker.specs.Stores.{clause_at};
 
 use crate::formula::MAX_VARIABLES;
 use crate::known::KnownClauses;
 use crate::marks::LiteralSet;
 use crate::occurrences::Occurrences;
-use crate::standing::{Standing, judge};
+use crate::status::{Status, status_of};
 use std::alloc::{AllocError, Global};
 use std::marker::Model;
 
@@ -87,10 +88,10 @@ impl Trail {
         ensures followed { self.new.followed ≡ self.old.followed }
         ensures visited { IfOk result (λ conflict. MatchBool conflict (IsAllFalse (Contains self.old.taken) clause.now) (IsVisited self.old self.new clause.now)) }
     {
-        match judge(&self.marks, clause) {
-            Standing::False => return Ok(true),
-            Standing::Unit(literal) => self.take(-literal)?,
-            Standing::Open => {}
+        match status_of(&self.marks, clause) {
+            Status::False => return Ok(true),
+            Status::Unit(literal) => self.take(-literal)?,
+            Status::Open => {}
         }
         Ok(false)
     }
@@ -108,72 +109,94 @@ fn occurrences(alloc: Global, known: &KnownClauses) -> Result<Occurrences, Alloc
     Ok(occurrences)
 }
 
-/// Looks at every clause, and answers whether one is false.
-fn visit_all(known: &KnownClauses, trail: &mut Trail) -> Result<bool, AllocError>
-    requires variables { trail.old.variables ≡ known.now.variables }
-    requires unseen { IsSettled known.now.clauses (λ n. 0 ≤ n) trail.old }
-    ensures variables { trail.new.variables ≡ trail.old.variables }
-    ensures visited { IfOk result (GoesOn known.now.clauses (λ _. ⊥) trail.new) }
-{
-    for number in 0..known.len() {
-        if trail.visit(known.clause(number))? {
-            return Ok(true);
-        }
-    }
-    Ok(false)
+/// Unit propagation over known clauses, which are listed under their literals.
+#[derive(Debug, Drop)]
+struct Propagation<'a> {
+    known: KnownClauses<'a>,
+    occurrences: Occurrences,
+    trail: Trail,
 }
 
-/// Looks at the clauses with these numbers, and answers whether one is false.
-fn visit_listed(
-    known: &KnownClauses,
-    numbers: &[usize],
-    trail: &mut Trail,
-) -> Result<bool, AllocError>
-    requires variables { trail.old.variables ≡ known.now.variables }
-    requires within { All (λ n. n < length known.now.clauses) numbers.now }
-    requires settled { IsSettled known.now.clauses (Contains numbers.now) trail.old }
-    ensures variables { trail.new.variables ≡ trail.old.variables }
-    ensures followed { trail.new.followed ≡ trail.old.followed }
-    ensures visited { IfOk result (GoesOn known.now.clauses (λ _. ⊥) trail.new) }
-{
-    for &number in numbers {
-        if trail.visit(known.clause(number))? {
-            return Ok(true);
-        }
-    }
-    Ok(false)
+impl<'a> Model for Propagation<'a> {
+    ghost use Rattle.rup_checker.specs.Closing.{Propagating, IsPropagation};
+
+    ghost Value = { Propagating };
+
+    ghost view = { λ p. record { known = p.known; trail = p.trail } };
+
+    ghost invariant = { λ p. IsPropagation p.known p.occurrences p.trail };
 }
 
-/// Follows up the literals that are taken false until none waits, and answers whether a clause became false.
-fn follow_up(
-    known: &KnownClauses,
-    occurrences: &Occurrences,
-    trail: &mut Trail,
-) -> Result<bool, AllocError>
-    requires variables { trail.old.variables ≡ known.now.variables }
-    requires listed { occurrences.now.variables ≡ known.now.variables }
-    requires all { ListsAll known.now.clauses (length known.now.clauses) occurrences.now }
-    requires settled { IsSettled known.now.clauses (λ _. ⊥) trail.old }
-    ensures { IfOk result (λ conflict. MatchBool conflict (IsRefuted known.now.clauses) (IsOpen known.now.clauses)) }
-{
-    while let Some(literal) = trail.next() {
-        if visit_listed(known, occurrences.of(literal), trail)? {
-            return Ok(true);
-        }
+impl<'a> Propagation<'a> {
+    /// Nothing is taken false, and no clause was looked at.
+    fn new(alloc: Global, known: KnownClauses<'a>) -> Result<Propagation<'a>, AllocError>
+        ensures known { IfOk result (λ p. p.known ≡ known.entry) }
+        ensures unseen { IfOk result (λ p. IsQuietBut known.entry.clauses (λ n. 0 ≤ n) p.trail) }
+    {
+        let occurrences = occurrences(alloc, &known)?;
+        let trail = Trail::new(alloc, known.variables())?;
+        Ok(Propagation {
+            known,
+            occurrences,
+            trail,
+        })
     }
-    Ok(false)
+
+    /// Looks at every clause, and answers whether one is false.
+    fn visit_all(&mut self) -> Result<bool, AllocError>
+        requires { IsQuietBut self.old.known.clauses (λ n. 0 ≤ n) self.old.trail }
+        ensures known { self.new.known ≡ self.old.known }
+        ensures visited { IfOk result (GoesOn self.old.known.clauses (λ _. ⊥) self.new.trail) }
+    {
+        for number in 0..self.known.len() {
+            if self.trail.visit(self.known.clause(number))? {
+                return Ok(true);
+            }
+        }
+        Ok(false)
+    }
+
+    /// Looks at the clauses with this literal, and answers whether one is false.
+    fn visit_listed(&mut self, literal: i32) -> Result<bool, AllocError>
+        requires literal { IsLiteral self.old.known.variables literal }
+        requires unseen { IsQuietBut self.old.known.clauses (λ n. Contains (clause_at self.old.known.clauses n) literal) self.old.trail }
+        ensures known { self.new.known ≡ self.old.known }
+        ensures followed { self.new.trail.followed ≡ self.old.trail.followed }
+        ensures visited { IfOk result (GoesOn self.old.known.clauses (λ _. ⊥) self.new.trail) }
+    {
+        let mut link = self.occurrences.head(literal);
+        while let Some(cell) = self.occurrences.follow(link) {
+            if self.trail.visit(self.known.clause(cell.number as usize))? {
+                return Ok(true);
+            }
+            link = cell.rest;
+        }
+        Ok(false)
+    }
+
+    /// Follows up the literals that are taken false until none waits, and answers whether a clause became false.
+    fn follow_up(&mut self) -> Result<bool, AllocError>
+        requires { IsQuietBut self.old.known.clauses (λ _. ⊥) self.old.trail }
+        ensures { IfOk result (λ conflict. MatchBool conflict (IsRefuted self.old.known.clauses) (IsOpen self.old.known.clauses)) }
+    {
+        while let Some(literal) = self.trail.next() {
+            if self.visit_listed(literal)? {
+                return Ok(true);
+            }
+        }
+        Ok(false)
+    }
 }
 
 /// Whether unit propagation reaches a false clause.
-pub(crate) fn reaches_conflict(alloc: Global, known: &KnownClauses) -> Result<bool, AllocError>
-    ensures { IfOk result (λ conflict. MatchBool conflict (IsRefuted known.now.clauses) (IsOpen known.now.clauses)) }
+pub(crate) fn reaches_conflict(alloc: Global, known: KnownClauses) -> Result<bool, AllocError>
+    ensures { IfOk result (λ conflict. MatchBool conflict (IsRefuted known.entry.clauses) (IsOpen known.entry.clauses)) }
 {
-    let occurrences = occurrences(alloc, known)?;
-    let mut trail = Trail::new(alloc, known.variables())?;
-    if visit_all(known, &mut trail)? {
+    let mut propagation = Propagation::new(alloc, known)?;
+    if propagation.visit_all()? {
         return Ok(true);
     }
-    follow_up(known, &occurrences, &mut trail)
+    propagation.follow_up()
 }
 
 /// Where unit propagation has ended without a false clause, no hints reach one.

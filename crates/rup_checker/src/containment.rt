@@ -5,7 +5,7 @@ ghost use Rattle.rup_checker.specs.Formulas.{IsLiteral};
 ghost use Rattle.rup_checker.specs.Marks.{IsMarked, Marks, IsClear};
 ghost use Rattle.rup_checker.specs.Logs.{IsNew};
 ghost use Rattle.rup_checker.specs.Occurrences.{listed};
-ghost use Rattle.rup_checker.specs.Containment.{AreAnchored, IsCovered};
+ghost use Rattle.rup_checker.specs.Containment.{AreAnchored, IsCovered, IsSubsumption};
 
 use crate::formula::MAX_VARIABLES;
 use crate::hints::{remove_all, take_false};
@@ -13,6 +13,7 @@ use crate::known::KnownClauses;
 use crate::marks::LiteralSet;
 use crate::occurrences::Occurrences;
 use std::alloc::{AllocError, Global};
+use std::marker::Model;
 
 /// Each clause under one of its literals. A clause that contains it has that literal.
 #[derive(Debug, Drop)]
@@ -21,18 +22,19 @@ pub struct Anchors {
     has_empty: bool,
 }
 
-/// The literal of a clause under which the fewest clauses are listed.
-fn rarest(occurrences: &Occurrences, clause: &[i32]) -> Option<i32>
+/// The literal of a clause under which no clause was listed for the longest time: so no list grows much longer than the
+/// others.
+fn least_recent(occurrences: &Occurrences, clause: &[i32]) -> Option<i32>
     requires { All (IsLiteral occurrences.now.variables) clause.now }
     ensures { MatchOption result (clause.now ≡ []) (Contains clause.now) }
 {
-    let mut rarest = *clause.first()?;
+    let mut least = *clause.first()?;
     for &literal in clause {
-        if occurrences.of(literal).len() < occurrences.of(rarest).len() {
-            rarest = literal;
+        if occurrences.head(literal) < occurrences.head(least) {
+            least = literal;
         }
     }
-    Some(rarest)
+    Some(least)
 }
 
 impl Anchors {
@@ -55,7 +57,7 @@ impl Anchors {
         ensures one_more { (clauses : List (List ℤ)) → slice_get clauses number ≡ Some clause.now →
             AreAnchored clauses number self.old → OnOk result (AreAnchored clauses (number + 1) self.new) }
     {
-        match rarest(&self.occurrences, clause) {
+        match least_recent(&self.occurrences, clause) {
             Some(literal) => self.occurrences.add(literal, number)?,
             None => self.has_empty = true,
         }
@@ -76,84 +78,88 @@ fn is_covered(marks: &LiteralSet, clause: &[i32]) -> bool
     true
 }
 
-/// Whether one of the clauses with these numbers has only literals that are marked.
-fn covers_one(known: &KnownClauses, marks: &LiteralSet, numbers: &[usize]) -> bool
-    requires variables { marks.now.variables ≡ known.now.variables }
-    requires within { All (λ n. n < length known.now.clauses) numbers.now }
-    ensures { MatchBool result (Any (IsCovered known.now.clauses marks.now) numbers.now)
-        (All (λ n. ¬ (IsCovered known.now.clauses marks.now n)) numbers.now) }
-{
-    for &number in numbers {
-        if is_covered(marks, known.clause(number)) {
-            return true;
-        }
-    }
-    false
-}
-
-/// Whether one of the clauses that are listed under these literals has only literals that are marked.
-fn covers_listed(
-    known: &KnownClauses,
-    marks: &LiteralSet,
-    occurrences: &Occurrences,
-    clause: &[i32],
-) -> bool
-    requires variables { marks.now.variables ≡ known.now.variables }
-    requires listed { occurrences.now.variables ≡ known.now.variables }
-    requires in_range { All (IsLiteral known.now.variables) clause.now }
-    requires within { All (λ l. All (λ n. n < length known.now.clauses) (listed occurrences.now l)) clause.now }
-    ensures { MatchBool result
-        (Any (λ l. Any (IsCovered known.now.clauses marks.now) (listed occurrences.now l)) clause.now)
-        (All (λ l. All (λ n. ¬ (IsCovered known.now.clauses marks.now n)) (listed occurrences.now l)) clause.now) }
-{
-    for &literal in clause {
-        if covers_one(known, marks, occurrences.of(literal)) {
-            return true;
-        }
-    }
-    false
-}
-
 /// Whether no literal of a clause has its negation marked.
 fn is_consistent(marks: &LiteralSet, clause: &[i32]) -> bool
-    requires bound { marks.now.variables ≤ MAX_VARIABLES }
-    requires in_range { All (IsLiteral marks.now.variables) clause.now }
+    requires { All (IsLiteral marks.now.variables) clause.now }
     ensures { MatchBool result (All (λ l. ¬ (IsMarked marks.now (neg_ℤ l))) clause.now)
         (Any (λ l. IsMarked marks.now (neg_ℤ l)) clause.now) }
 {
     for &literal in clause {
-        if marks.contains(-literal) {
+        if marks.contains_negation(literal) {
             return false;
         }
     }
     true
 }
 
-/// Whether a clause whose literals are marked is new among the known ones.
-fn is_new_marked(
-    known: &KnownClauses,
-    anchors: &Anchors,
-    marks: &LiteralSet,
-    clause: &[i32],
-) -> bool
-    requires bound { known.now.variables ≤ MAX_VARIABLES }
-    requires variables { marks.now.variables ≡ known.now.variables }
-    requires listed { anchors.now.occurrences.variables ≡ known.now.variables }
-    requires anchored { AreAnchored known.now.clauses (length known.now.clauses) anchors.now }
-    requires in_range { All (IsLiteral known.now.variables) clause.now }
-    requires marked { Marks marks.now clause.now }
-    ensures { MatchBool result (IsNew known.now.clauses clause.now) (¬ (IsNew known.now.clauses clause.now)) }
-{
-    if clause.is_empty() {
-        return false;
+/// Known clauses that are listed each under one of its literals, and literals that are marked.
+#[derive(Debug, Drop)]
+struct Subsumption<'a> {
+    known: &'a KnownClauses<'a>,
+    anchors: &'a Anchors,
+    marks: &'a LiteralSet,
+}
+
+impl<'a> Model for Subsumption<'a> {
+    ghost use Rattle.rup_checker.specs.Containment.{Subsuming, IsSubsumption};
+
+    ghost Value = { Subsuming };
+
+    ghost view = { λ s. record { known = s.known.now; anchors = s.anchors.now; marks = s.marks.now } };
+
+    ghost invariant = { λ s. IsSubsumption s.known.now s.anchors.now s.marks.now };
+}
+
+impl<'a> Subsumption<'a> {
+    /// Whether one of the clauses that are listed under a literal has only literals that are marked.
+    fn covers_one(&self, literal: i32) -> bool
+        requires { IsLiteral self.now.known.variables literal }
+        ensures { MatchBool result
+            (Any (IsCovered self.now.known.clauses self.now.marks) (listed self.now.anchors.occurrences literal))
+            (All (λ n. ¬ (IsCovered self.now.known.clauses self.now.marks n)) (listed self.now.anchors.occurrences literal)) }
+    {
+        let mut link = self.anchors.occurrences.head(literal);
+        while let Some(cell) = self.anchors.occurrences.follow(link) {
+            if is_covered(self.marks, self.known.clause(cell.number as usize)) {
+                return true;
+            }
+            link = cell.rest;
+        }
+        false
     }
-    if anchors.has_empty {
-        return false;
+
+    /// Whether one of the clauses that are listed under these literals has only literals that are marked.
+    fn covers_any(&self, clause: &[i32]) -> bool
+        requires { All (IsLiteral self.now.known.variables) clause.now }
+        ensures { MatchBool result
+            (Any (λ l. Any (IsCovered self.now.known.clauses self.now.marks) (listed self.now.anchors.occurrences l)) clause.now)
+            (All (λ l. All (λ n. ¬ (IsCovered self.now.known.clauses self.now.marks n)) (listed self.now.anchors.occurrences l)) clause.now) }
+    {
+        for &literal in clause {
+            if self.covers_one(literal) {
+                return true;
+            }
+        }
+        false
     }
-    if !is_consistent(marks, clause) {
-        return false;
+
+    /// Whether a clause, whose literals are those that are marked, is new among the known ones.
+    fn admits(&self, clause: &[i32]) -> bool
+        requires in_range { All (IsLiteral self.now.known.variables) clause.now }
+        requires marked { Marks self.now.marks clause.now }
+        ensures { MatchBool result (IsNew self.now.known.clauses clause.now) (¬ (IsNew self.now.known.clauses clause.now)) }
+    {
+        if clause.is_empty() {
+            return false;
+        }
+        if self.anchors.has_empty {
+            return false;
+        }
+        if !is_consistent(self.marks, clause) {
+            return false;
+        }
+        !self.covers_any(clause)
     }
-    !covers_listed(known, marks, &anchors.occurrences, clause)
 }
 
 /// Whether a clause is new among the known ones. No literal is marked before, and none after.
@@ -163,10 +169,7 @@ pub fn is_new(
     marks: &mut LiteralSet,
     clause: &[i32],
 ) -> bool
-    requires bound { known.now.variables ≤ MAX_VARIABLES }
-    requires variables { marks.old.variables ≡ known.now.variables }
-    requires listed { anchors.now.occurrences.variables ≡ known.now.variables }
-    requires anchored { AreAnchored known.now.clauses (length known.now.clauses) anchors.now }
+    requires listed { IsSubsumption known.now anchors.now marks.old }
     requires in_range { All (IsLiteral known.now.variables) clause.now }
     requires clear { IsClear marks.old }
     ensures variables { marks.new.variables ≡ marks.old.variables }
@@ -174,7 +177,12 @@ pub fn is_new(
     ensures new { MatchBool result (IsNew known.now.clauses clause.now) (¬ (IsNew known.now.clauses clause.now)) }
 {
     take_false(marks, clause);
-    let new = is_new_marked(known, anchors, marks, clause);
+    let subsumption = Subsumption {
+        known,
+        anchors,
+        marks,
+    };
+    let new = subsumption.admits(clause);
     remove_all(marks, clause);
     new
 }

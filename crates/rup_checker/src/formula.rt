@@ -1,4 +1,4 @@
-ghost use Rattle.std.specs.Prelude.{◌≡◌, ◌^◌, ◌<◌, ◌≤◌, ◌++◌, ◌∷◌, [], Some, IsTrue, IsNone, IfSome, OnOk, OnErr, ◌↔◌, length, slice_get, All};
+ghost use Rattle.std.specs.Prelude.{◌≡◌, ◌^◌, ◌<◌, ◌≤◌, ◌++◌, ◌∷◌, [], Some, IsTrue, IsNone, IfSome, IfOk, OnOk, OnErr, ◌↔◌, length, slice_get, All};
 ghost use Rattle.rup_checker.specs.Formulas.{IsLiteral};
 
 use crate::hints::first_outside;
@@ -42,6 +42,16 @@ impl Formula {
         Some(Formula {
             variables,
             store: Store::new(alloc),
+        })
+    }
+
+    /// The same formula, in memory of its own.
+    pub fn copy(&self, alloc: Global) -> Result<Formula, AllocError>
+        ensures { IfOk result (λ f. f ≡ self.now) }
+    {
+        Ok(Formula {
+            variables: self.variables,
+            store: self.store.copy(alloc)?,
         })
     }
 

@@ -7,7 +7,7 @@ use crate::fault::StepFault;
 use crate::formula::MAX_VARIABLES;
 use crate::known::KnownClauses;
 use crate::marks::LiteralSet;
-use crate::standing::{Standing, judge};
+use crate::status::{Status, status_of};
 
 fn is_literal(variables: u32, literal: i32) -> bool
     ensures { IsTrue result ↔ IsLiteral variables literal }
@@ -53,10 +53,10 @@ pub fn follow(known: &KnownClauses, taken: &mut LiteralSet, hints: &[u32]) -> Re
         if hint as usize >= known.len() {
             return Err(StepFault::Unknown(hint));
         }
-        match judge(taken, known.clause(hint as usize)) {
-            Standing::Unit(literal) => taken.insert(-literal),
-            Standing::False if place + 1 == hints.len() => return Ok(()),
-            _ => return Err(StepFault::NotUnit(hint)),
+        match status_of(taken, known.clause(hint as usize)) {
+            Status::Unit(literal) => taken.insert(-literal),
+            Status::False if place + 1 == hints.len() => return Ok(()),
+            Status::False | Status::Open => return Err(StepFault::NotUnit(hint)),
         }
     }
     Err(StepFault::NoConflict)

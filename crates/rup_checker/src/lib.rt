@@ -7,6 +7,7 @@
 mod checker;
 mod closing;
 mod containment;
+mod derivation;
 mod fault;
 mod formula;
 mod hints;
@@ -16,7 +17,7 @@ mod log;
 mod marks;
 mod occurrences;
 mod replay;
-mod standing;
+mod status;
 mod store;
 mod verdict;
 

@@ -1,4 +1,4 @@
-ghost use Rattle.std.specs.Prelude.{◌≡◌, ◌≢◌, ◌↔◌, ◌+◌, ◌*◌, ◌<◌, ◌≤◌, ℤ, IsTrue, IfOk};
+ghost use Rattle.std.specs.Prelude.{◌≡◌, ◌≢◌, ◌↔◌, ◌+◌, ◌*◌, ◌<◌, ◌≤◌, ℤ, neg_ℤ, IsTrue, IfOk};
 ghost use Rattle.rup_checker.specs.Formulas.{IsLiteral};
 ghost use Rattle.rup_checker.specs.Marks.{IsMarked, IsClear, place_of};
 
@@ -54,6 +54,13 @@ impl LiteralSet {
         ensures { IsTrue result ↔ IsMarked self.now literal }
     {
         self.flags[place(self.variables, literal)]
+    }
+
+    pub fn contains_negation(&self, literal: i32) -> bool
+        requires { IsLiteral self.now.variables literal }
+        ensures { IsTrue result ↔ IsMarked self.now (neg_ℤ literal) }
+    {
+        self.flags[place(self.variables, -literal)]
     }
 
     pub fn insert(&mut self, literal: i32)

@@ -1,26 +1,42 @@
 //! Whether a log is busy.
 
-ghost use Rattle.std.specs.Prelude.{◌≡◌, ◌↔◌, IsTrue, IfOk, MatchBool, length};
-ghost use Rattle.rup_checker.specs.Logs.{IsBusy};
+ghost use Rattle.std.specs.Prelude.{◌≡◌, ◌↔◌, IsTrue, IfOk, MatchBool, MatchOption, length};
+ghost use Rattle.rup_checker.specs.Logs.{IsBusy, IsOpen};
+ghost use Rattle.rup_checker.specs.Closing.{IsRefuted};
 ghost use Rattle.rup_checker.specs.Containment.{AreAnchored};
-ghost use Rattle.rup_checker.specs.Replays.{IsBusyStep, IsReady, IsTaken};
+ghost use Rattle.rup_checker.specs.Replays.{IsBusyStep, IsTaken};
 
-use crate::checker::Checker;
 use crate::closing::reaches_conflict;
 use crate::containment::{Anchors, is_new};
+use crate::derivation::Derivation;
 use crate::fault::StepFault;
 use crate::formula::Formula;
 use crate::hints::first_outside;
 use crate::log::{Log, Step};
 use crate::marks::LiteralSet;
 use std::alloc::{AllocError, Global};
+use std::marker::Model;
 
-/// The checker of a log's steps, with what tells whether they are new.
+/// The steps of a log so far, with what tells whether the next one is new. Contracts see the formula with the steps'
+/// clauses after its own.
 #[derive(Debug, Drop)]
 pub struct Replay<'a> {
-    checker: Checker<'a>,
+    formula: &'a Formula,
+    derivation: Derivation,
     anchors: Anchors,
     marks: LiteralSet,
+}
+
+impl<'a> Model for Replay<'a> {
+    ghost use Rattle.rup_checker.specs.Formulas.{Cnf};
+
+    ghost Value = { Cnf };
+
+    ghost use Rattle.rup_checker.specs.Replays.{replayed, IsReplay};
+
+    ghost view = { replayed };
+
+    ghost invariant = { IsReplay };
 }
 
 /// The clauses of a formula, each under one of its literals.
@@ -36,38 +52,70 @@ fn anchors(alloc: Global, formula: &Formula) -> Result<Anchors, AllocError>
 }
 
 impl<'a> Replay<'a> {
+    /// No steps.
     fn new(alloc: Global, formula: &'a Formula) -> Result<Replay<'a>, AllocError>
-        ensures variables { IfOk result (λ r. r.checker.variables ≡ formula.now.variables) }
-        ensures clauses { IfOk result (λ r. r.checker.clauses ≡ formula.now.clauses) }
-        ensures ready { IfOk result IsReady }
+        ensures { IfOk result (λ r. r ≡ formula.now) }
     {
+        let variables = formula.variables();
         Ok(Replay {
-            checker: Checker::new(alloc, formula)?,
+            formula,
+            derivation: Derivation::new(alloc, variables)?,
             anchors: anchors(alloc, formula)?,
-            marks: LiteralSet::new(alloc, formula.variables())?,
+            marks: LiteralSet::new(alloc, variables)?,
         })
     }
 
-    /// Takes the next step, if it is accepted and new.
-    fn take(&mut self, step: &Step) -> Result<bool, AllocError>
-        requires { IsReady self.old }
-        ensures { IfOk result (λ taken. MatchBool taken (IsTaken self.old self.new step.now) (¬ (IsBusyStep self.old.checker step.now))) }
+    /// The replay with the next step, if that is accepted and new.
+    fn take(self, step: &Step) -> Result<Option<Replay<'a>>, AllocError>
+        ensures { IfOk result (λ next. MatchOption next (¬ (IsBusyStep self.entry step.now)) (IsTaken self.entry step.now)) }
     {
+        let Replay {
+            formula,
+            mut derivation,
+            mut anchors,
+            mut marks,
+        } = self;
         let clause = step.clause.as_slice();
-        if first_outside(self.checker.known().variables(), clause).is_some() {
-            return Ok(false);
+        if first_outside(formula.variables(), clause).is_some() {
+            return Ok(None);
         }
-        if !is_new(self.checker.known(), &self.anchors, &mut self.marks, clause) {
-            return Ok(false);
+        let known = derivation.known(formula);
+        let number = known.len();
+        if !is_new(&known, &anchors, &mut marks, clause) {
+            return Ok(None);
         }
-        let number = self.checker.known().len();
-        match self.checker.step(clause, step.hints.as_slice()) {
+        match derivation.step(formula, clause, step.hints.as_slice()) {
             Ok(()) => {}
             Err(StepFault::Memory) => return Err(AllocError),
-            Err(_) => return Ok(false),
+            Err(
+                StepFault::Unknown(_)
+                | StepFault::NotUnit(_)
+                | StepFault::NoConflict
+                | StepFault::Literal(_),
+            ) => return Ok(None),
         }
-        self.anchors.add(clause, number)?;
-        Ok(true)
+        anchors.add(clause, number)?;
+        Ok(Some(Replay {
+            formula,
+            derivation,
+            anchors,
+            marks,
+        }))
+    }
+
+    /// Whether unit propagation with all steps reaches a false clause.
+    fn ends_in_conflict(self, alloc: Global) -> Result<bool, AllocError>
+        ensures { IfOk result (λ conflict. MatchBool conflict (IsRefuted self.entry.clauses) (IsOpen self.entry.clauses)) }
+    {
+        // The lists of the replay are let go before the closing propagation makes its own.
+        let Replay {
+            formula,
+            derivation,
+            anchors,
+            ..
+        } = self;
+        drop(anchors);
+        reaches_conflict(alloc, derivation.known(formula))
     }
 }
 
@@ -80,16 +128,10 @@ pub fn busy(alloc: Global, formula: &Formula, log: &Log) -> Result<bool, AllocEr
     let mut replay = Replay::new(alloc, formula)?;
     let steps = log.steps.as_slice();
     for step in steps {
-        if !replay.take(step)? {
-            return Ok(false);
+        match replay.take(step)? {
+            Some(next) => replay = next,
+            None => return Ok(false),
         }
     }
-    // The lists of the replay are let go before the closing propagation makes its own.
-    let Replay {
-        checker,
-        anchors,
-        ..
-    } = replay;
-    drop(anchors);
-    Ok(!reaches_conflict(alloc, checker.known())?)
+    Ok(!replay.ends_in_conflict(alloc)?)
 }

@@ -66,6 +66,16 @@ impl Store {
         Ok(store)
     }
 
+    /// The same clauses, in memory of their own.
+    pub fn copy(&self, alloc: Global) -> Result<Store, AllocError>
+        ensures { IfOk result (λ s. s.clauses ≡ self.now.clauses) }
+    {
+        Ok(Store {
+            literals: Vec::from_slice(alloc, &self.literals)?,
+            ends: Vec::from_slice(alloc, &self.ends)?,
+        })
+    }
+
     /// The number of clauses.
     pub fn len(&self) -> usize
         ensures value { result ≡ length self.now.clauses }

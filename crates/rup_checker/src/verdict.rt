@@ -2,7 +2,7 @@ ghost use Rattle.std.specs.Prelude.{◌↔◌, IsTrue, OnOk, IfErr};
 ghost use Rattle.rup_checker.specs.Formulas.{IsUnsatisfiable};
 ghost use Rattle.rup_checker.specs.Logs.{Accepts, IsEnded, IsLogFault};
 
-use crate::checker::Checker;
+use crate::derivation::Derivation;
 use crate::fault::{LogFault, StepFault};
 use crate::formula::Formula;
 use crate::log::{Log, Step};
@@ -23,13 +23,13 @@ pub fn check(alloc: Global, formula: &Formula, log: &Log) -> Result<(), LogFault
     ensures sound { OnOk result (IsUnsatisfiable formula.now) }
     ensures refused { IfErr result (IsLogFault formula.now log.now.steps) }
 {
-    let mut checker = match Checker::new(alloc, formula) {
-        Ok(checker) => checker,
+    let mut derivation = match Derivation::new(alloc, formula.variables()) {
+        Ok(derivation) => derivation,
         Err(_) => return Err(LogFault::Memory),
     };
     let steps = log.steps.as_slice();
     for (place, step) in steps.iter().enumerate() {
-        match checker.step(step.clause.as_slice(), step.hints.as_slice()) {
+        match derivation.step(formula, step.clause.as_slice(), step.hints.as_slice()) {
             Ok(()) => {}
             Err(StepFault::Memory) => return Err(LogFault::Memory),
             Err(fault) => {

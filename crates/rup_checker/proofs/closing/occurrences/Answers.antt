@@ -1,12 +1,11 @@
-use Rattle.std.proofs.Common.{ℕ, ◌∙◌, subst}
-use Rattle.rup_checker.specs.Formulas.{IsLiteral}
+use Rattle.std.proofs.Common.{◌∙◌}
 use Rattle.rup_checker.proofs.OccurrenceLemmas.{lists_none, lists_more}
 use Rattle.rup_checker.proofs.closing.occurrences.Goals as goal
 
 pub loop-number-init : goal.loop-number-init
 loop-number-init c = record {
   variables = c.in_ok-occurrences.ensures.variables ∙ c.variables.ensures.value;
-  lists = lists_none c.args.known.now.clauses c.in_ok-occurrences.occurrences (λ l known. c.in_ok-occurrences.ensures.empty l (subst (λ (n : ℕ). IsLiteral n l) c.in_ok-occurrences.ensures.variables known));
+  lists = lists_none c.args.known.now.clauses c.in_ok-occurrences.occurrences (λ l known. c.in_ok-occurrences.ensures.empty l);
 }
 
 pub loop-number-preserved : goal.loop-number-preserved

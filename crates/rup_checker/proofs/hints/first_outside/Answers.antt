@@ -5,7 +5,7 @@ use Rattle.std.proofs.lemmas.List.{take_all, take-append-drop, drop_more}
 use Rattle.std.proofs.lemmas.List.Elements.{All-more}
 use Rattle.rup_checker.specs.Formulas.{IsLiteral}
 use Rattle.rup_checker.specs.Steps.{IsFirstOutside}
-use Rattle.rup_checker.proofs.Standings.{false_alarm}
+use Rattle.rup_checker.proofs.Statuses.{false_alarm}
 use Rattle.rup_checker.proofs.hints.first_outside.Goals as goal
 
 pub returns-then-not-is_literal : goal.returns-then-not-is_literal

@@ -33,21 +33,21 @@ returns-in-False-clause-answer c = λ list marks.
 pub returns-in-False-clause-marked : goal.returns-in-False-clause-marked
 returns-in-False-clause-marked c = λ l known marked. hinted_so_far c.args.known.now.clauses c.args.hints.now c.loop-place.place c.args.taken.now l (c.loop-place.invariant.2 l known marked)
 
-pub returns-in_default-clause-answer : goal.returns-in_default-clause-answer
-returns-in_default-clause-answer c = λ list marks.
+pub returns-in-False-2-clause-answer : goal.returns-in-False-2-clause-answer
+returns-in-False-2-clause-answer c = λ list marks.
     followed-stuck c.args.known.now.clauses c.args.taken.now c.loop-place.taken c.args.hints.now c.loop-place.place c.clause.result.now c.loop-place-test.true c.loop-place.invariant.1 c.clause.ensures.value (subst (λ (n : ℕ). All (IsLiteral n) c.clause.result.now) (sym (c.loop-place.invariant.0 ∙ c.requires)) c.clause.ensures.in_range)
     (λ l. false_not_unit (IsMarked c.loop-place.taken) c.clause.result.now l c.in-False.ensures) (λ both. grind (arith, both.0, c.if-place-hints.false)) list marks
 
-pub returns-in_default-clause-marked : goal.returns-in_default-clause-marked
-returns-in_default-clause-marked c = λ l known marked. hinted_so_far c.args.known.now.clauses c.args.hints.now c.loop-place.place c.args.taken.now l (c.loop-place.invariant.2 l known marked)
+pub returns-in-False-2-clause-marked : goal.returns-in-False-2-clause-marked
+returns-in-False-2-clause-marked c = λ l known marked. hinted_so_far c.args.known.now.clauses c.args.hints.now c.loop-place.place c.args.taken.now l (c.loop-place.invariant.2 l known marked)
 
-pub returns-in_default-2-clause-answer : goal.returns-in_default-2-clause-answer
-returns-in_default-2-clause-answer c = λ list marks.
+pub returns-in-False-2-2-clause-answer : goal.returns-in-False-2-2-clause-answer
+returns-in-False-2-2-clause-answer c = λ list marks.
     followed-stuck c.args.known.now.clauses c.args.taken.now c.loop-place.taken c.args.hints.now c.loop-place.place c.clause.result.now c.loop-place-test.true c.loop-place.invariant.1 c.clause.ensures.value (subst (λ (n : ℕ). All (IsLiteral n) c.clause.result.now) (sym (c.loop-place.invariant.0 ∙ c.requires)) c.clause.ensures.in_range)
-    (λ l. open_not_unit (IsMarked c.loop-place.taken) c.clause.result.now l c.in_default.ensures) (λ both. open_not_false (IsMarked c.loop-place.taken) c.clause.result.now c.in_default.ensures both.1) list marks
+    (λ l. open_not_unit (IsMarked c.loop-place.taken) c.clause.result.now l c.in-False-2.ensures) (λ both. open_not_false (IsMarked c.loop-place.taken) c.clause.result.now c.in-False-2.ensures both.1) list marks
 
-pub returns-in_default-2-clause-marked : goal.returns-in_default-2-clause-marked
-returns-in_default-2-clause-marked c = λ l known marked. hinted_so_far c.args.known.now.clauses c.args.hints.now c.loop-place.place c.args.taken.now l (c.loop-place.invariant.2 l known marked)
+pub returns-in-False-2-2-clause-marked : goal.returns-in-False-2-2-clause-marked
+returns-in-False-2-2-clause-marked c = λ l known marked. hinted_so_far c.args.known.now.clauses c.args.hints.now c.loop-place.place c.args.taken.now l (c.loop-place.invariant.2 l known marked)
 
 pub loop-place-preserved : goal.loop-place-preserved
 loop-place-preserved c =

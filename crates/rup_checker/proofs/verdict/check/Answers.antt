@@ -1,4 +1,4 @@
-use Rattle.std.proofs.Common.{rules, ◌≡◌, ◌<◌, ◌≤◌, ◌++◌, ◌∷◌, [], ℕ, List, length, take, get_or, inl, inr, sym, ap, subst, ◌∙◌}
+use Rattle.std.proofs.Common.{rules, ◌≡◌, ◌<◌, ◌≤◌, ◌++◌, ◌∷◌, [], ℕ, List, length, take, get_or, inl, inr, refl, append_assoc, sym, ap, subst, ◌∙◌}
 use Rattle.std.specs.Prelude.{ℤ}
 use Rattle.std.proofs.lemmas.List.{take_all}
 use Rattle.rup_checker.specs.declared.log.Step.{Step}
@@ -22,7 +22,7 @@ returns-in-Err-step c =
         accepted = tt;
         sound = tt;
         refused = subst (λ (steps : List Step). IsFirstRefused f steps i c.in-Err-step.fault) c.as_slice-steps.ensures (first-refused f steps i s c.in-Err-step.fault c.loop-place-test.true before.2
-            (refused-same c.loop-place.checker.variables f.variables c.loop-place.checker.clauses (known f (take i steps)) c.as_slice.result.now (get_or steps i s).clause c.as_slice-in-loop-place.result.now (get_or steps i s).hints c.in-Err-step.fault before.0 before.1 (c.as_slice.ensures ∙ ap (λ (s : Step). s.clause) same) (c.as_slice-in-loop-place.ensures ∙ ap (λ (s : Step). s.hints) same) refused));
+            (refused-same f.variables f.variables (f.clauses ++ c.loop-place.derivation.added.clauses) (known f (take i steps)) c.as_slice.result.now (get_or steps i s).clause c.as_slice-in-loop-place.result.now (get_or steps i s).hints c.in-Err-step.fault refl before.1 (c.as_slice.ensures ∙ ap (λ (s : Step). s.clause) same) (c.as_slice-in-loop-place.ensures ∙ ap (λ (s : Step). s.hints) same) refused));
       }
       | inr memory ↦ absurd (search rules)
     ]
@@ -38,9 +38,9 @@ loop-place-preserved c =
     let same : s ≡ get_or steps i s = c.index-steps-place.is in
     let clause : c.as_slice.result.now ≡ (get_or steps i s).clause = c.as_slice.ensures ∙ ap (λ (s : Step). s.clause) same in
     let accepted : IsAccepted f.variables (known f (take i steps)) (get_or steps i s).clause (get_or steps i s).hints =
-    accepted-same c.loop-place.checker.variables f.variables c.loop-place.checker.clauses (known f (take i steps)) c.as_slice.result.now (get_or steps i s).clause c.as_slice-in-loop-place.result.now (get_or steps i s).hints before.0 before.1 clause (c.as_slice-in-loop-place.ensures ∙ ap (λ (s : Step). s.hints) same) c.in-Ok-step.ensures.answer in (
+    accepted-same f.variables f.variables (f.clauses ++ c.loop-place.derivation.added.clauses) (known f (take i steps)) c.as_slice.result.now (get_or steps i s).clause c.as_slice-in-loop-place.result.now (get_or steps i s).hints refl before.1 clause (c.as_slice-in-loop-place.ensures ∙ ap (λ (s : Step). s.hints) same) c.in-Ok-step.ensures.answer in (
       c.in-Ok-step.ensures.variables ∙ before.0,
-      c.in-Ok-step.ensures.added ∙ ap (λ (cs : List (List ℤ)). cs ++ c.as_slice.result.now ∷ []) before.1 ∙ ap (λ (x : List ℤ). known f (take i steps) ++ x ∷ []) clause ∙ sym (known-take f steps i s within),
+      ap (λ (more : List (List ℤ)). f.clauses ++ more) c.in-Ok-step.ensures.added ∙ sym (append_assoc f.clauses c.loop-place.derivation.added.clauses (c.as_slice.result.now ∷ [])) ∙ ap (λ (cs : List (List ℤ)). cs ++ c.as_slice.result.now ∷ []) before.1 ∙ ap (λ (x : List ℤ). known f (take i steps) ++ x ∷ []) clause ∙ sym (known-take f steps i s within),
       each-take (λ clauses s. IsAccepted f.variables clauses s.clause s.hints) f steps i s within before.2 accepted,
     )
 
@@ -55,4 +55,4 @@ returns-then-ends_empty-clause-accepted c = record {
 }
 
 pub returns-then-ends_empty-clause-sound : goal.returns-then-ends_empty-clause-sound
-returns-then-ends_empty-clause-sound c = log_sound c.args.formula.now c.args.log.now.steps c.new.ensures.in_range (returns-then-ends_empty-clause-accepted c)
+returns-then-ends_empty-clause-sound c = log_sound c.args.formula.now c.args.log.now.steps c.variables.ensures.in_range (returns-then-ends_empty-clause-accepted c)

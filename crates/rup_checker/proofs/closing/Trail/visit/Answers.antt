@@ -2,15 +2,15 @@ use Rattle.std.proofs.Common.{◌≡◌, ap, arith}
 use Rattle.std.proofs.lemmas.Int.{ints}
 use Rattle.std.proofs.lemmas.List.Elements.{All-contains}
 use Rattle.rup_checker.specs.Formulas.{IsLiteral}
-use Rattle.rup_checker.specs.declared.standing.Standing.TheVariants as standing
+use Rattle.rup_checker.specs.declared.status.Status.TheVariants as status
 use Rattle.rup_checker.specs.Closing.{TrailState}
-use Rattle.rup_checker.proofs.TrailLemmas.{Stands-now, visited_open, visited_unit}
+use Rattle.rup_checker.proofs.TrailLemmas.{HasStatus-now, visited_open, visited_unit}
 use Rattle.rup_checker.proofs.closing.Trail.visit.Goals as goal
 
 pub returns-in-False-clause-visited : goal.returns-in-False-clause-visited
 returns-in-False-clause-visited c =
     let inside = c.self.inside in
-    Stands-now c.args.self.now inside.marks inside.literals.items c.args.clause.now standing.False (ap (λ (t : TrailState). t.variables) c.self.view_is) (ap (λ (t : TrailState). t.taken) c.self.view_is) c.self.invariant.0 c.requires c.in-False.ensures
+    HasStatus-now c.args.self.now inside.marks inside.literals.items c.args.clause.now status.False (ap (λ (t : TrailState). t.variables) c.self.view_is) (ap (λ (t : TrailState). t.taken) c.self.view_is) c.self.invariant.0 c.requires c.in-False.ensures
 
 pub overflow_sub-literal : goal.overflow_sub-literal
 overflow_sub-literal c =
@@ -22,7 +22,7 @@ overflow_sub-literal c =
 pub returns-in_ok-take-in-Unit-clause-visited : goal.returns-in_ok-take-in-Unit-clause-visited
 returns-in_ok-take-in-Unit-clause-visited c =
     let inside = c.self.inside in
-    let unit = Stands-now c.args.self.now inside.marks inside.literals.items c.args.clause.now (standing.Unit c.in-Unit.literal) (ap (λ (t : TrailState). t.variables) c.self.view_is) (ap (λ (t : TrailState). t.taken) c.self.view_is) c.self.invariant.0 c.requires c.in-Unit.ensures in
+    let unit = HasStatus-now c.args.self.now inside.marks inside.literals.items c.args.clause.now (status.Unit c.in-Unit.literal) (ap (λ (t : TrailState). t.variables) c.self.view_is) (ap (λ (t : TrailState). t.taken) c.self.view_is) c.self.invariant.0 c.requires c.in-Unit.ensures in
     let known : IsLiteral c.args.self.now.variables c.in-Unit.literal = All-contains (IsLiteral c.args.self.now.variables) c.args.clause.now c.in-Unit.literal c.requires unit.stands in
     let bound = c.self.invariant.0.bound in
     let same : inside.marks.variables ≡ c.args.self.now.variables = ap (λ (t : TrailState). t.variables) c.self.view_is in
@@ -31,4 +31,4 @@ returns-in_ok-take-in-Unit-clause-visited c =
 pub returns-in-Open-clause-visited : goal.returns-in-Open-clause-visited
 returns-in-Open-clause-visited c =
     let inside = c.self.inside in
-    visited_open c.args.self.now c.args.clause.now (Stands-now c.args.self.now inside.marks inside.literals.items c.args.clause.now standing.Open (ap (λ (t : TrailState). t.variables) c.self.view_is) (ap (λ (t : TrailState). t.taken) c.self.view_is) c.self.invariant.0 c.requires c.in-Open.ensures)
+    visited_open c.args.self.now c.args.clause.now (HasStatus-now c.args.self.now inside.marks inside.literals.items c.args.clause.now status.Open (ap (λ (t : TrailState). t.variables) c.self.view_is) (ap (λ (t : TrailState). t.taken) c.self.view_is) c.self.invariant.0 c.requires c.in-Open.ensures)

@@ -1,7 +1,0 @@
-use Rattle.std.proofs.Common.{All, take}
-use Rattle.rup_checker.specs.Occurrences.{listed}
-use Rattle.rup_checker.specs.Containment.{IsCovered}
-use Rattle.rup_checker.proofs.containment.covers_listed.Given as goal
-
-abbrev pub invariant-loop-literal : goal.invariant-loop-literal
-invariant-loop-literal l = All (λ m. All (λ n. ¬ (IsCovered l.known.clauses l.marks n)) (listed l.occurrences m)) (take l.literal-index l.clause)

@@ -1,5 +1,0 @@
-use Rattle.std.proofs.Common.{Contains}
-use Rattle.rup_checker.proofs.containment.rarest.Given as goal
-
-abbrev pub invariant-loop-literal : goal.invariant-loop-literal
-invariant-loop-literal l = Contains l.clause l.rarest
