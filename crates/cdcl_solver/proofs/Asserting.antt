@@ -1,8 +1,8 @@
 -- A search that goes back before a decision, and one that learns a clause.
-use Rattle.std.proofs.Common.{◌≡◌, ◌≢◌, ◌+◌, ◌<◌, ◌≤◌, ◌++◌, ◌∷◌, [], ◌⊎◌, inl, inr, ℕ, zero, suc, List, refl, sym, ap, subst, ◌∙◌, length, get_or, take, Bool, true, arith}
+use Rattle.std.proofs.Common.{◌≡◌, ◌≢◌, ◌+◌, ◌<◌, ◌++◌, ◌∷◌, [], ◌⊎◌, inl, inr, ℕ, zero, suc, List, refl, sym, ap, subst, ◌∙◌, length, get_or, take, arith}
 use Rattle.std.specs.Prelude.{ℤ, pos, neg_ℤ, All, Contains, ◌↔◌}
 use Rattle.std.proofs.Math.IntN.{ℤ_discrete}
-use Rattle.std.proofs.lemmas.List.{get_or_default, length_push, length-take-le, take_all, take-append-le, get_or_append_left}
+use Rattle.std.proofs.lemmas.List.{get_or_default, length_push, length-take-le, take_all, take-append-le}
 use Rattle.std.proofs.lemmas.List.Elements.{All-push, Contains-get_or, Contains-append_left, Contains-push}
 use Rattle.rup_checker.specs.Formulas.{IsLiteral}
 use Rattle.rup_checker.specs.Steps.{IsUnit}
@@ -10,12 +10,11 @@ use Rattle.rup_checker.specs.Stores.{clause_at}
 use Rattle.cdcl_solver.specs.declared.trail.Assigned.{Assigned}
 use Rattle.cdcl_solver.specs.declared.trail.Reason.{Reason}
 use Rattle.cdcl_solver.specs.declared.trail.Reason.TheVariants as reason
-use Rattle.cdcl_solver.specs.declared.watches.Watch.{Watch}
 use Rattle.cdcl_solver.specs.Literals.{Marking, IsMarked, Marks}
-use Rattle.cdcl_solver.specs.Watches.{Lists, listed, AreApart, IsWatched, AreWatched, HasTrue, HasOpenPair, IsSafe}
-use Rattle.cdcl_solver.specs.Trails.{falses, IsReason, IsJustified, IsTrail}
-use Rattle.cdcl_solver.specs.Searches.{Searched, taken, followed_up, AreClauses, IsSearch, IsMarkedSearch, IsSettled, IsAsserting}
-use Rattle.cdcl_solver.proofs.Members.{IsWithin, all_from_in}
+use Rattle.cdcl_solver.specs.Watches.{Lists, listed, AreApart, AreWatched, IsSafe}
+use Rattle.cdcl_solver.specs.Trails.{falses, IsReason, IsTrail}
+use Rattle.cdcl_solver.specs.Searches.{Searched, taken, followed_up, IsSearch, IsMarkedSearch, IsSettled, IsAsserting}
+use Rattle.cdcl_solver.proofs.Members.{IsWithin}
 use Rattle.cdcl_solver.proofs.Attaching.{clause_before, clause_last_at}
 use Rattle.cdcl_solver.proofs.Safety.{safe_later}
 use Rattle.cdcl_solver.proofs.States.{assigned_marks}
@@ -144,7 +143,7 @@ module _ (s : Searched) (clause : List ℤ) (search : IsSearch s) (settled : IsS
           clauses = sym q i;
           lists = lists;
           trail = sym (r ∙ ap (λ (l : ℤ). s.trail ++ record { literal = l; reason = reason.Clause number } ∷ []) is_u
-          ∙ ap (λ (k : ℕ). s.trail ++ record { literal = u; reason = reason.Clause k } ∷ []) is_number) i;
+              ∙ ap (λ (k : ℕ). s.trail ++ record { literal = u; reason = reason.Clause k } ∷ []) is_number) i;
           followed = s.followed;
           started = s.started;
         }) (record {

@@ -1,26 +1,17 @@
 -- One more clause, which its first two literals watch.
-use Rattle.std.proofs.Common.{◌≡◌, ◌≢◌, ◌+◌, ◌<◌, ◌≤◌, ◌++◌, ◌∷◌, [], ◌⊎◌, inl, inr, ℕ, zero, suc, List, refl, sym, ap, subst, ◌∙◌, length, get_or, take, Bool, true, false, arith}
-use Rattle.std.specs.Prelude.{ℤ, pos, neg_ℤ, All, Any, Contains}
+use Rattle.std.proofs.Common.{◌≡◌, ◌≢◌, ◌<◌, ◌≤◌, ◌++◌, ◌∷◌, [], ◌⊎◌, inl, inr, ℕ, zero, suc, List, sym, ap, subst, ◌∙◌, length, get_or, true, arith}
+use Rattle.std.specs.Prelude.{ℤ, pos, Any, Contains}
 use Rattle.std.proofs.Math.IntN.{ℤ_discrete}
-use Rattle.std.proofs.lemmas.List.{get_or_default, get_or_past, get_or_append_left, get_or_push, length_push}
-use Rattle.std.proofs.lemmas.List.Elements.{All-contains, All-push, Contains-get_or, Contains-append_left, Contains-push, Contains-push_cases}
+use Rattle.std.proofs.lemmas.List.{get_or_default, get_or_append_left, get_or_push, length_push}
+use Rattle.std.proofs.lemmas.List.Elements.{All-contains, Contains-get_or, Contains-append_left, Contains-push, Contains-push_cases}
 use Rattle.rup_checker.specs.Formulas.{IsLiteral}
-use Rattle.rup_checker.specs.Steps.{IsUnit}
 use Rattle.rup_checker.specs.Stores.{clause_at}
-use Rattle.cdcl_solver.specs.declared.trail.Assigned.{Assigned}
-use Rattle.cdcl_solver.specs.declared.trail.Reason.{Reason}
-use Rattle.cdcl_solver.specs.declared.trail.Reason.TheVariants as reason
 use Rattle.cdcl_solver.specs.declared.watches.Watch.{Watch}
-use Rattle.cdcl_solver.specs.Watches.{Lists, listed, AreEdited, AreApart, IsWatched, IsWatch, AreWatched, HasTrue, HasOpenPair, IsSafe}
-use Rattle.cdcl_solver.specs.Trails.{falses, IsReason, IsJustified, IsTrail}
-use Rattle.cdcl_solver.specs.Searches.{Searched, taken, followed_up, AreClauses, IsSearch, IsSettled, IsAsserting}
-use Rattle.cdcl_solver.proofs.Members.{IsWithin, all_from_in}
+use Rattle.cdcl_solver.specs.Watches.{Lists, listed, AreEdited, AreApart, IsWatched, IsWatch, AreWatched}
+use Rattle.cdcl_solver.proofs.Members.{all_from_in}
 use Rattle.cdcl_solver.proofs.Apart.{apart_push}
 use Rattle.cdcl_solver.proofs.Moved.{any_in, in_any}
 use Rattle.cdcl_solver.proofs.Rewatching.{number_within}
-use Rattle.cdcl_solver.proofs.Safety.{safe_later}
-use Rattle.cdcl_solver.proofs.TrailParts.{falses_push, falses_front, trail_changed, trail_push}
-use Rattle.std.proofs.lemmas.List.{take-append-le}
 
 -- the clause with a number, where one more clause stands at the end
 pub clause_before : (cs : List (List ℤ)) (c : List ℤ) (k : ℕ) → k < length cs → clause_at (cs ++ c ∷ []) k ≡ clause_at cs k

@@ -1,5 +1,5 @@
 -- What follows where unit propagation is complete.
-use Rattle.std.proofs.Common.{◌<◌, ◌∷◌, [], inl, inr, ℕ, zero, suc, List, sym, subst, length, arith}
+use Rattle.std.proofs.Common.{◌∷◌, [], inl, inr, ℕ, zero, suc, List, sym, subst, arith}
 use Rattle.std.specs.Prelude.{ℤ, neg_ℤ, All, Contains, IsSomeAnd, slice_get}
 use Rattle.std.proofs.lemmas.List.Elements.{All-contains, All-head, All-tail}
 use Rattle.rup_checker.specs.Steps.{IsAllFalse, IsUnit, Propagates, Refutes}

@@ -1,12 +1,11 @@
 -- Clauses that follow along hints: each hint leaves one literal, which is true, and the last one is false.
-use Rattle.std.proofs.Common.{◌≡◌, ◌≢◌, ◌<◌, ◌++◌, ◌∷◌, [], ◌⊎◌, inl, inr, ℕ, zero, suc, List, refl, sym, ap, subst, ◌∙◌, length, get_or, arith}
-use Rattle.std.specs.Prelude.{ℤ, neg_ℤ, All, Contains, IsSomeAnd, slice_get, Some, Option}
+use Rattle.std.proofs.Common.{◌≡◌, ◌≢◌, ◌<◌, ◌++◌, ◌∷◌, [], ◌⊎◌, inl, inr, ℕ, zero, suc, List, refl, sym, subst, length, get_or, arith}
+use Rattle.std.specs.Prelude.{ℤ, neg_ℤ, Contains, IsSomeAnd, slice_get}
 use Rattle.std.proofs.Math.IntN.{ℤ_discrete}
-use Rattle.std.proofs.lemmas.List.Elements.{All-contains}
 use Rattle.rup_checker.specs.Steps.{IsAllFalse, IsUnit, Propagates, Refutes}
 use Rattle.rup_checker.specs.Stores.{clause_at}
 use Rattle.cdcl_solver.specs.Explanations.{Derives}
-use Rattle.cdcl_solver.proofs.Members.{IsWithin, first_in, later_in, in_cases, within_added, all_from_in}
+use Rattle.cdcl_solver.proofs.Members.{IsWithin, first_in, later_in, within_added, all_from_in}
 use Rattle.cdcl_solver.proofs.TrailParts.{IsConsistent}
 
 pub derives_more : (cs : List (List ℤ)) (falses : List ℤ) (D E : ℤ → Type 0) (hints : List ℕ) (last : ℕ) → ((m : ℤ) → D m → E m) → Derives cs falses D hints last → Derives cs falses E hints last
@@ -61,8 +60,7 @@ reaches cs falses D taken (hint ∷ hints) last consistent within among h =
     (λ m d. elim d [
       | inl p ↦ later_in (neg_ℤ h.0) taken m (among m p)
       | inr e ↦ subst (Contains (neg_ℤ h.0 ∷ taken)) e (first_in (neg_ℤ h.0) taken)
-    ]) h.5 in
-    (
+    ]) h.5 in (
       next.0,
       (
         h.0,

@@ -1,15 +1,12 @@
 -- A walk down the trail: decisions are denied, reasons are hints.
-use Rattle.std.proofs.Common.{◌≡◌, ◌≢◌, ◌+◌, ◌<◌, ◌≤◌, ◌++◌, ◌∷◌, [], ◌⊎◌, inl, inr, ℕ, zero, suc, List, refl, sym, ap, subst, ◌∙◌, length, get_or, take, drop, reverse, arith}
-use Rattle.std.specs.Prelude.{ℤ, pos, neg_ℤ, All, Contains, Result, Ok, Err, OnOk}
-use Rattle.std.proofs.Math.IntN.{ℤ_discrete, neg_ℤ-neg_ℤ}
+use Rattle.std.proofs.Common.{◌≡◌, ◌≢◌, ◌+◌, ◌<◌, ◌≤◌, ◌++◌, ◌∷◌, [], ◌⊎◌, inl, inr, ℕ, List, sym, ap, subst, ◌∙◌, length, get_or, take, drop, reverse, arith}
+use Rattle.std.specs.Prelude.{ℤ, neg_ℤ, Contains, Result, Ok, Err, OnOk}
 use Rattle.std.proofs.lemmas.List.{get_or_default, get_or_append_left, get_or_push, length_push, take_more, take_all, drop-append-le, reverse-append}
 use Rattle.std.proofs.lemmas.List.Elements.{All-contains, Contains-get_or, Contains-append_left, Contains-push, Contains-push_cases}
-use Rattle.rup_checker.specs.Formulas.{IsLiteral}
 use Rattle.rup_checker.specs.Steps.{IsUnit}
 use Rattle.rup_checker.specs.Stores.{clause_at}
 use Rattle.cdcl_solver.specs.declared.analysis.Explained.{Explained}
 use Rattle.cdcl_solver.specs.declared.trail.Assigned.{Assigned}
-use Rattle.cdcl_solver.specs.declared.trail.Reason.{Reason}
 use Rattle.cdcl_solver.specs.declared.trail.Reason.TheVariants as reason
 use Rattle.cdcl_solver.specs.Watches.{AreApart}
 use Rattle.cdcl_solver.specs.Trails.{falses, IsReason, IsJustified}
@@ -31,8 +28,11 @@ pub starts : (s : Searched) (conflict : ℕ) (clause : List ℤ) (hints : List �
 starts s conflict clause hints c none one = subst (λ (hs : List ℕ). IsExplained s (length s.trail) (record { clause = clause; hints = hs; back = 0 })) (sym one)
     (subst (λ (ls : List ℤ). IsExplained s (length s.trail) (record { clause = ls; hints = conflict ∷ []; back = 0 })) (sym none) (record {
       some = omega arith;
-      derives = (c.there, λ m here. inr (subst (λ (ts : List Assigned). Contains (falses ts) m) (sym (take_all (length s.trail) s.trail (omega arith)))
-          (All-contains (Contains (taken s)) (clause_at s.clauses conflict) m c.false here)));
+      derives = (
+        c.there,
+        λ m here. inr (subst (λ (ts : List Assigned). Contains (falses ts) m) (sym (take_all (length s.trail) s.trail (omega arith)))
+            (All-contains (Contains (taken s)) (clause_at s.clauses conflict) m c.false here)),
+      );
       kept = λ l h. absurd (none_in l h);
       apart = λ i j d low_i low_j e. absurd (omega (arith, low_i));
       back = λ h. absurd (omega (arith, h));

@@ -1,6 +1,6 @@
 -- The clauses that a false literal watches, looked at one after the other.
 use Rattle.std.proofs.Common.{◌≡◌, ◌≢◌, ◌+◌, ◌<◌, ◌≤◌, ◌++◌, ◌∷◌, [], ◌⊎◌, inl, inr, ℕ, List, refl, sym, ap, subst, ◌∙◌, length, get_or, take, arith, pos, false}
-use Rattle.std.specs.Prelude.{ℤ, Any, Contains, Option, Some, None}
+use Rattle.std.specs.Prelude.{ℤ, Any, Contains, None}
 use Rattle.std.proofs.Math.Decide.{ℕ_discrete}
 use Rattle.std.proofs.Math.IntN.{ℤ_discrete}
 use Rattle.std.proofs.lemmas.List.{get_or_default, take_all, length-take, length-take-le, get_or-take}
@@ -9,7 +9,6 @@ use Rattle.rup_checker.specs.Stores.{clause_at}
 use Rattle.cdcl_solver.specs.declared.watches.Watch.{Watch}
 use Rattle.cdcl_solver.specs.Watches.{listed, IsWatched, HasOpenPair, IsSafe}
 use Rattle.cdcl_solver.specs.Searches.{Searched, taken, followed_up, IsSearch, IsVisited, IsFound, GoesOn, AreSafeAfter, number_at}
-use Rattle.cdcl_solver.proofs.Members.{IsWithin}
 use Rattle.cdcl_solver.proofs.Safety.{safe_later}
 use Rattle.cdcl_solver.proofs.Visiting.{goes_on_refl, goes_on_trans, goes_on_taken, goes_on_followed}
 use Rattle.std.proofs.lemmas.List.Elements.{Contains-push_cases}

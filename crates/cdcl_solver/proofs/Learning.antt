@@ -1,10 +1,10 @@
 -- A clause whose literals but one were false where propagation was complete is new, and makes propagation stronger.
-use Rattle.std.proofs.Common.{◌≡◌, ◌≢◌, ◌<◌, ◌∷◌, [], ◌⊎◌, inl, inr, ℕ, List, sym, subst, ◌∙◌, length, arith}
+use Rattle.std.proofs.Common.{◌≢◌, inl, inr, List, subst, arith}
 use Rattle.std.specs.Prelude.{ℤ, neg_ℤ, All, Contains}
 use Rattle.std.proofs.Math.IntN.{ℤ_discrete}
 use Rattle.std.proofs.lemmas.List.Elements.{All-contains, All-weaker}
-use Rattle.rup_checker.specs.Logs.{IsQuiet, IsComplete, IsNew, Strengthens}
-use Rattle.cdcl_solver.proofs.Members.{IsWithin, decide_in, all_from_in}
+use Rattle.rup_checker.specs.Logs.{IsQuiet, IsComplete, IsNew, IsOneEmpowering}
+use Rattle.cdcl_solver.proofs.Members.{decide_in, all_from_in}
 use Rattle.cdcl_solver.proofs.TrailParts.{IsConsistent}
 
 module _ (clauses : List (List ℤ)) (taken clause : List ℤ) (u : ℤ) (complete : IsComplete clauses (Contains taken)) (stands : Contains clause u)
@@ -28,7 +28,7 @@ module _ (clauses : List (List ℤ)) (taken clause : List ℤ) (u : ℤ) (comple
     minimal = All-weaker (IsQuiet (Contains taken)) _ not_within clauses complete;
   }
 
-  pub learnt_grows : IsConsistent taken → Strengthens clauses clause
+  pub learnt_grows : IsConsistent taken → IsOneEmpowering clauses clause
   learnt_grows consistent = record {
     literal = u;
     taken = taken;

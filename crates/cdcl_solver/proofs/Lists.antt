@@ -1,9 +1,8 @@
 -- What a list of watches has after an edit.
-use Rattle.std.proofs.Common.{◌≡◌, ◌≢◌, ◌+◌, ◌-◌, ◌<◌, ◌≤◌, ◌++◌, ◌∷◌, [], ◌⊎◌, inl, inr, ℕ, zero, suc, List, refl, sym, ap, subst, ◌∙◌, length, get_or, take, length-append, append-nil, arith}
-use Rattle.std.specs.Prelude.{Contains}
+use Rattle.std.proofs.Common.{◌≡◌, ◌-◌, ◌<◌, ◌++◌, ◌∷◌, [], ℕ, List, refl, sym, ap, ◌∙◌, length, get_or, take, length-append, arith}
 use Rattle.std.specs.List.{swap_remove}
 use Rattle.std.proofs.Math.ListN.{set}
-use Rattle.std.proofs.lemmas.List.{set-append_left, set_at, take_at, get_or_at, length-set, take-append-le, take-set-le, take-take}
+use Rattle.std.proofs.lemmas.List.{set-append_left, set_at, take_at, get_or_at, length-set, take-set-le, take-take}
 
 -- the last element put in the place of another
 pub removed_inside : {X : Type 0} (rest : List X) (last d : X) (at : ℕ) → at < length rest → set rest at last ≡ swap_remove (rest ++ last ∷ []) at d

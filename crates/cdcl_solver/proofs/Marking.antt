@@ -1,13 +1,12 @@
 -- Lists of literals that are marked, and clauses taken in one after the other.
-use Rattle.std.proofs.Common.{◌≡◌, ◌≢◌, ◌+◌, ◌<◌, ◌≤◌, ◌++◌, ◌∷◌, [], ◌⊎◌, inl, inr, ℕ, List, refl, sym, ap, subst, ◌∙◌, length, get_or, take, drop, arith, true, false}
-use Rattle.std.specs.Prelude.{ℤ, pos, neg_ℤ, All, Contains, ◌↔◌}
+use Rattle.std.proofs.Common.{◌≡◌, ◌≢◌, ◌+◌, ◌<◌, ◌≤◌, ◌++◌, ◌∷◌, [], ◌⊎◌, inl, inr, ℕ, List, sym, ap, subst, ◌∙◌, length, get_or, take, drop, arith, true, false}
+use Rattle.std.specs.Prelude.{ℤ, pos, All, Contains, ◌↔◌}
 use Rattle.std.proofs.Math.IntN.{ℤ_discrete}
-use Rattle.std.proofs.lemmas.List.{take_more, take_all, drop_more, length_push, get_or_past}
-use Rattle.std.proofs.lemmas.List.Elements.{All-contains, All-push, Contains-append_left, Contains-push, Contains-push_cases}
-use Rattle.rup_checker.specs.Formulas.{Cnf, IsLiteral}
+use Rattle.std.proofs.lemmas.List.{take_more, drop_more, get_or_past}
+use Rattle.std.proofs.lemmas.List.Elements.{All-contains, Contains-append_left, Contains-push, Contains-push_cases}
+use Rattle.rup_checker.specs.Formulas.{IsLiteral}
 use Rattle.rup_checker.specs.Stores.{clause_at}
 use Rattle.cdcl_solver.specs.Literals.{Marking, IsMarked, Marks}
-use Rattle.cdcl_solver.specs.Watches.{AreApart}
 use Rattle.cdcl_solver.specs.Searches.{AreSame}
 use Rattle.cdcl_solver.proofs.Members.{in_cases, all_from_in}
 use Rattle.cdcl_solver.proofs.TrailParts.{front_in}
@@ -74,9 +73,9 @@ unmarked_more old new list i x low is same itself others marked m lit h = elim (
   | yes e ↦ absurd (itself (subst (IsMarked new) e h))
   | no ne ↦ elim (in_cases (get_or list i (pos 0)) (drop (i + 1) list) m
       (subst (λ (ls : List ℤ). Contains ls m) (drop_more list i (pos 0) low) (marked m (subst (λ (n : ℕ). IsLiteral n m) same lit) ((others m ne).0 h)))) [
-    | inl e ↦ absurd (ne (sym e ∙ sym is))
-    | inr there ↦ there
-  ]
+        | inl e ↦ absurd (ne (sym e ∙ sym is))
+        | inr there ↦ there
+      ]
 ]
 
 -- one more clause of the formula is there

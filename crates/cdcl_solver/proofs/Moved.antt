@@ -1,19 +1,19 @@
 -- A clause that gives up one of the two literals that watch it for a third one.
-use Rattle.std.proofs.Common.{◌≡◌, ◌≢◌, ◌+◌, ◌-◌, ◌<◌, ◌≤◌, ◌++◌, ◌∷◌, [], ◌⊎◌, inl, inr, ℕ, zero, suc, List, refl, sym, ap, subst, ◌∙◌, length, get_or, arith}
-use Rattle.std.specs.Prelude.{ℤ, neg_ℤ, Bool, true, false, All, Any, Contains, ◌↔◌, swap}
+use Rattle.std.proofs.Common.{◌≡◌, ◌≢◌, ◌<◌, ◌≤◌, ◌++◌, ◌∷◌, [], ◌⊎◌, inl, inr, ℕ, zero, suc, List, refl, sym, ap, subst, ◌∙◌, length, get_or, arith}
+use Rattle.std.specs.Prelude.{ℤ, Any, Contains, ◌↔◌, swap}
 use Rattle.std.specs.List.Sorted.{IsPermutation}
 use Rattle.std.proofs.Math.Decide.{ℕ_discrete}
 use Rattle.std.proofs.Math.IntN.{ℤ_discrete}
-use Rattle.std.proofs.Math.ListN.{set, length-set}
-use Rattle.std.proofs.lemmas.List.{get_or_default, get_or-set_same, get_or-set_other, get_or_past}
+use Rattle.std.proofs.Math.ListN.{set}
+use Rattle.std.proofs.lemmas.List.{get_or_default, get_or-set_same, get_or-set_other}
 use Rattle.std.proofs.lemmas.List.Edits.{swapped_from_swap, length-swap}
-use Rattle.std.proofs.lemmas.List.Elements.{All-contains, All-get_or, All-from_get_or, Contains-get_or, Contains-push_cases, Contains-append_left, Contains-push}
+use Rattle.std.proofs.lemmas.List.Elements.{All-contains, Contains-push_cases, Contains-append_left, Contains-push}
 use Rattle.std.proofs.lemmas.List.Sorted.{IsPermutation-swap, IsPermutation-sym, Contains-permutation}
 use Rattle.rup_checker.specs.Formulas.{IsLiteral}
 use Rattle.rup_checker.specs.Stores.{clause_at}
 use Rattle.cdcl_solver.specs.declared.watches.Watch.{Watch}
-use Rattle.cdcl_solver.specs.Watches.{AreApart, IsWatched, IsWatch, AreWatched, HasTrue, HasOpenPair, IsSafe}
-use Rattle.cdcl_solver.proofs.Members.{in_cases, first_in, later_in, all_from_in}
+use Rattle.cdcl_solver.specs.Watches.{AreApart, IsWatched, IsWatch, AreWatched, IsSafe}
+use Rattle.cdcl_solver.proofs.Members.{in_cases, later_in, all_from_in}
 use Rattle.cdcl_solver.proofs.Apart.{apart_swap, apart_permuted, apart_tail, apart_head, apart_push}
 
 -- what the exchange does to the clause

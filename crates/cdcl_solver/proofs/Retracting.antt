@@ -1,13 +1,11 @@
 -- Literals taken from the end of a trail.
-use Rattle.std.proofs.Common.{◌≡◌, ◌≢◌, ◌+◌, ◌<◌, ◌≤◌, ◌++◌, ◌∷◌, [], ◌⊎◌, inl, inr, ℕ, List, refl, sym, ap, subst, ◌∙◌, length, get_or, take, Bool, arith}
-use Rattle.std.specs.Prelude.{ℤ, pos, neg_ℤ, Contains, ◌↔◌}
+use Rattle.std.proofs.Common.{◌≡◌, ◌≢◌, ◌+◌, ◌<◌, ◌≤◌, ◌++◌, ◌∷◌, [], inl, inr, ℕ, List, refl, sym, ap, subst, ◌∙◌, length, get_or, take, Bool, arith}
+use Rattle.std.specs.Prelude.{ℤ, neg_ℤ, Contains, ◌↔◌}
 use Rattle.std.proofs.Math.IntN.{ℤ_discrete}
 use Rattle.std.proofs.lemmas.List.{length_push, length-take, take_at, take-take, get_or_push, get_or-take}
 use Rattle.std.proofs.lemmas.List.Elements.{Contains-append_left, Contains-push_cases}
 use Rattle.rup_checker.specs.Formulas.{IsLiteral}
 use Rattle.cdcl_solver.specs.declared.trail.Assigned.{Assigned}
-use Rattle.cdcl_solver.specs.declared.trail.Reason.{Reason}
-use Rattle.cdcl_solver.specs.declared.trail.Reason.TheVariants as reason
 use Rattle.cdcl_solver.specs.Literals.{Marking, IsMarked, Marks}
 use Rattle.cdcl_solver.specs.Watches.{Lists}
 use Rattle.cdcl_solver.specs.Trails.{falses, IsTrail}
@@ -55,9 +53,9 @@ module _ (n : ℕ) (clauses : List (List ℤ)) (all xs ys : List Assigned) (a : 
     | no ne ↦ (
       (λ h. elim (Contains-push_cases (falses ys) (neg_ℤ a.literal) l
           (subst (λ (ls : List ℤ). Contains ls l) (ap falses split ∙ falses_push ys a) ((marks l (subst (λ (k : ℕ). IsLiteral k l) same lit)).0 ((others l ne).0 h)))) [
-        | inl there ↦ there
-        | inr e ↦ absurd (ne (sym (is ∙ e)))
-      ]),
+            | inl there ↦ there
+            | inr e ↦ absurd (ne (sym (is ∙ e)))
+          ]),
       (λ h. (others l ne).1 ((marks l (subst (λ (k : ℕ). IsLiteral k l) same lit)).1
           (subst (λ (ls : List ℤ). Contains ls l) (sym (ap falses split ∙ falses_push ys a)) (Contains-append_left (falses ys) (neg_ℤ a.literal ∷ []) l h)))),
     )

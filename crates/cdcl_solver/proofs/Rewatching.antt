@@ -1,6 +1,6 @@
 -- A search in which another literal watches a clause.
-use Rattle.std.proofs.Common.{◌≡◌, ◌≢◌, ◌+◌, ◌<◌, ◌≤◌, ◌++◌, ◌∷◌, [], ◌⊎◌, inl, inr, ℕ, zero, suc, List, refl, sym, ap, subst, ◌∙◌, length, get_or, take, Bool, true, false, arith}
-use Rattle.std.specs.Prelude.{ℤ, pos, neg_ℤ, All, Contains, ◌↔◌, swap, slice_get, Some}
+use Rattle.std.proofs.Common.{◌≡◌, ◌≢◌, ◌<◌, ◌≤◌, ◌++◌, ◌∷◌, [], ◌⊎◌, inl, inr, ℕ, List, sym, ap, subst, ◌∙◌, length, get_or, take, true, false, arith}
+use Rattle.std.specs.Prelude.{ℤ, pos, All, Contains, ◌↔◌, swap, slice_get, Some}
 use Rattle.std.specs.List.{swap_remove}
 use Rattle.std.specs.List.Sorted.{IsPermutation}
 use Rattle.std.proofs.Math.Decide.{ℕ_discrete}
@@ -11,15 +11,14 @@ use Rattle.std.proofs.lemmas.List.Sorted.{IsPermutation-swap_remove}
 use Rattle.rup_checker.specs.Formulas.{IsLiteral}
 use Rattle.rup_checker.specs.Steps.{IsUnit}
 use Rattle.rup_checker.specs.Stores.{clause_at}
-use Rattle.cdcl_solver.specs.declared.trail.Assigned.{Assigned}
 use Rattle.cdcl_solver.specs.declared.trail.Reason.{Reason}
 use Rattle.cdcl_solver.specs.declared.trail.Reason.TheVariants as reason
 use Rattle.cdcl_solver.specs.declared.watches.Watch.{Watch}
 use Rattle.cdcl_solver.specs.declared.search.Rewatch.{Rewatch}
-use Rattle.cdcl_solver.specs.Watches.{Lists, listed, AreEdited, AreApart, IsWatched, IsWatch, AreWatched, IsSafe}
-use Rattle.cdcl_solver.specs.Trails.{falses, IsReason, IsTrail}
-use Rattle.cdcl_solver.specs.Searches.{Searched, taken, followed_up, AreClauses, IsSearch, IsRewatch, number_at}
-use Rattle.cdcl_solver.proofs.Members.{IsWithin, all_from_in}
+use Rattle.cdcl_solver.specs.Watches.{Lists, listed, AreEdited, AreApart, IsWatched, IsWatch, IsSafe}
+use Rattle.cdcl_solver.specs.Trails.{falses, IsReason}
+use Rattle.cdcl_solver.specs.Searches.{Searched, taken, followed_up, IsSearch, IsRewatch, number_at}
+use Rattle.cdcl_solver.proofs.Members.{all_from_in}
 use Rattle.cdcl_solver.proofs.Lists.{take-swap_remove}
 use Rattle.cdcl_solver.proofs.Moved.{Moves, moves, safe_moved, clause_same, clause_other, Relists, watched_moved}
 use Rattle.cdcl_solver.proofs.States.{at_get}
@@ -96,7 +95,6 @@ module _ (s : Searched) (l : ℤ) (at : ℕ) (k : Rewatch) (search : IsSearch s)
 
   module _ (pushed after : Lists) (more : Watch) (is_number : more.number ≡ k.number) (is_other : more.other ≡ k.other) (is_long : more.binary ≡ false)
       (push : AreEdited s.lists pushed fresh (listed s.lists fresh ++ more ∷ [])) where
-
     pub same_list : listed pushed l ≡ listed s.lists l
     same_list = push.others l differ
 

@@ -1,12 +1,11 @@
 -- A clause that propagation need not look at is neither false nor unit.
-use Rattle.std.proofs.Common.{◌≡◌, ◌≢◌, ◌<◌, ◌≤◌, ◌++◌, ◌∷◌, [], ◌⊎◌, inl, inr, ℕ, List, refl, sym, subst, ◌∙◌, length, get_or, arith}
+use Rattle.std.proofs.Common.{◌≤◌, inl, inr, List, sym, subst, ◌∙◌, length, get_or, arith}
 use Rattle.std.specs.Prelude.{ℤ, pos, neg_ℤ, All, Contains}
 use Rattle.std.proofs.lemmas.List.{get_or_default}
 use Rattle.std.proofs.lemmas.List.Elements.{All-contains, Contains-get_or}
-use Rattle.rup_checker.specs.Steps.{IsUnit}
 use Rattle.rup_checker.specs.Logs.{IsQuiet, IsComplete}
 use Rattle.cdcl_solver.specs.Watches.{AreApart, IsWatched, HasTrue, HasOpenPair, IsSafe}
-use Rattle.cdcl_solver.proofs.Members.{IsWithin, decide_in}
+use Rattle.cdcl_solver.proofs.Members.{IsWithin}
 use Rattle.cdcl_solver.proofs.TrailParts.{IsConsistent}
 
 -- a safe clause stays so where more is false

@@ -1,18 +1,15 @@
 -- Propagation from its start to its end.
-use Rattle.std.proofs.Common.{◌≡◌, ◌≢◌, ◌+◌, ◌<◌, ◌≤◌, ◌++◌, ◌∷◌, [], ◌⊎◌, inl, inr, ℕ, zero, suc, List, refl, sym, ap, subst, ◌∙◌, length, get_or, take, Bool, true, false, arith, append-nil}
-use Rattle.std.specs.Prelude.{ℤ, pos, neg_ℤ, All, Contains, Option, Some, None, Result, Ok, Err, IfOk, slice_get, MatchOption}
+use Rattle.std.proofs.Common.{◌≡◌, ◌+◌, ◌<◌, ◌≤◌, ◌++◌, ◌∷◌, [], ◌⊎◌, inl, inr, ℕ, List, refl, sym, ap, subst, ◌∙◌, length, get_or, take, true, arith, append-nil}
+use Rattle.std.specs.Prelude.{ℤ, pos, neg_ℤ, All, Contains, Option, Some, None, Result, Ok, Err, IfOk, MatchOption}
 use Rattle.std.proofs.lemmas.List.{take_more, take_all, get_or_append_left, get_or_default, length-append}
-use Rattle.std.proofs.lemmas.List.Elements.{All-contains, All-nil, Contains-get_or}
-use Rattle.rup_checker.specs.Formulas.{IsLiteral}
+use Rattle.std.proofs.lemmas.List.Elements.{All-nil, Contains-get_or}
 use Rattle.rup_checker.specs.Logs.{IsComplete}
 use Rattle.rup_checker.specs.Stores.{clause_at}
 use Rattle.cdcl_solver.specs.declared.trail.Assigned.{Assigned}
-use Rattle.cdcl_solver.specs.declared.trail.Reason.{Reason}
 use Rattle.cdcl_solver.specs.declared.trail.Reason.TheVariants as reason
-use Rattle.cdcl_solver.specs.Watches.{HasTrue, HasOpenPair, IsSafe}
-use Rattle.cdcl_solver.specs.Trails.{falses, IsJustified}
-use Rattle.cdcl_solver.specs.Searches.{Searched, taken, followed_up, IsSearch, IsSettled, IsConflict, IsImplied, IsLast, IsTakenUp, IsWaiting, IsLookedAt, AreSafeAfter, AreShortTrue, GoesOn, assigned}
-use Rattle.cdcl_solver.proofs.Members.{none_in}
+use Rattle.cdcl_solver.specs.Watches.{HasTrue, IsSafe}
+use Rattle.cdcl_solver.specs.Trails.{falses}
+use Rattle.cdcl_solver.specs.Searches.{Searched, taken, followed_up, IsSearch, IsSettled, IsConflict, IsImplied, IsLast, IsTakenUp, IsWaiting, IsLookedAt, AreSafeAfter, AreShortTrue, GoesOn}
 use Rattle.cdcl_solver.proofs.Safety.{all_quiet}
 use Rattle.cdcl_solver.proofs.Short.{trail_short}
 use Rattle.cdcl_solver.proofs.States.{taken_push}
@@ -33,7 +30,7 @@ module _ (s : Searched) (l : ℤ) (waiting : IsWaiting s l) where
   waiting_kept t g same = record {
     low = omega (arith, waiting.low, same, ap length g.trail, length-append s.trail g.more);
     is = waiting.is ∙ ap (λ (a : Assigned). neg_ℤ a.literal) (sym (ap (λ (k : ℕ). get_or t.trail k nothing) same ∙ ap (λ (ts : List Assigned). get_or ts s.followed nothing) g.trail
-    ∙ get_or_append_left s.trail g.more nothing s.followed waiting.low));
+        ∙ get_or_append_left s.trail g.more nothing s.followed waiting.low));
   }
 
   module _ (search : IsSearch s) where

@@ -1,16 +1,14 @@
 -- A trail has no more literals than there are variables.
-use Rattle.std.proofs.Common.{◌≡◌, ◌≢◌, ◌+◌, ◌-◌, ◌<◌, ◌≤◌, ◌∷◌, [], ◌⊎◌, inl, inr, ℕ, zero, suc, List, refl, sym, ap, subst, ◌∙◌, length, get_or, take, map, arith, true}
+use Rattle.std.proofs.Common.{◌≡◌, ◌≢◌, ◌-◌, ◌<◌, ◌≤◌, ◌⊎◌, inl, inr, ℕ, zero, suc, List, sym, ap, subst, ◌∙◌, length, get_or, take, map, arith, true}
 use Rattle.std.specs.Prelude.{ℤ, pos, negsuc, neg_ℤ, nat_abs, AllPairs, Contains}
 use Rattle.std.specs.List.{list_any}
 use Rattle.std.proofs.Math.Dec.{eqb}
-use Rattle.std.proofs.Math.IntN.{neg_ℤ-neg_ℤ}
 use Rattle.std.proofs.lemmas.Bool.Decides.{Decides-eqb}
 use Rattle.std.proofs.lemmas.List.{length-map, get_or-map}
 use Rattle.std.proofs.lemmas.List.Folds.{Any-from_list_any}
 use Rattle.std.proofs.lemmas.Map.Made.{IsDistinct-from_AllPairs}
 use Rattle.std.proofs.lemmas.Map.Steps.{length-le_from_distinct_below}
 use Rattle.cdcl_solver.specs.declared.trail.Assigned.{Assigned}
-use Rattle.cdcl_solver.specs.declared.trail.Reason.{Reason}
 use Rattle.cdcl_solver.specs.declared.trail.Reason.TheVariants as reason
 use Rattle.cdcl_solver.specs.Trails.{falses, IsTrail}
 use Rattle.cdcl_solver.proofs.TrailParts.{false_before, trail_opposite}
@@ -45,7 +43,7 @@ module _ (n : ℕ) (clauses : List (List ℤ)) (trail : List Assigned) (t : IsTr
   pairs i j d less low e =
       let within : j < length trail = omega (arith, low, length-map trail variable) in
       let same : nat_abs (get_or trail i none).literal - 1 ≡ nat_abs (get_or trail j none).literal - 1 =
-          sym (at_variable i d (omega (arith, less, within))) ∙ e ∙ at_variable j d within in
+      sym (at_variable i d (omega (arith, less, within))) ∙ e ∙ at_variable j d within in
       trail_apart i j less within (omega (arith, same, (t i none (omega (arith, less, within))).in_range.some, (t j none within).in_range.some))
 
   below : (q : ℕ) → list_any (eqb q) (map variable trail) ≡ true → q < n

@@ -1,22 +1,20 @@
 -- A search and the log of what it learnt.
-use Rattle.std.proofs.Common.{◌≡◌, ◌≢◌, ◌+◌, ◌-◌, ◌*◌, ◌^◌, ◌<◌, ◌≤◌, ◌++◌, ◌∷◌, [], ◌⊎◌, inl, inr, ℕ, zero, suc, List, refl, sym, ap, subst, ◌∙◌, length, get_or, take, drop, map, reverse, length-append, append-nil, Bool, true, false, arith}
-use Rattle.std.specs.Prelude.{ℤ, pos, negsuc, neg_ℤ, nat_abs, not, All, Any, Contains, IsSomeAnd, IsTrue, slice_get, Some, ◌↔◌}
-use Rattle.std.proofs.Math.IntN.{ℤ_discrete, neg_ℤ-neg_ℤ}
-use Rattle.std.proofs.lemmas.List.{length-map, length_push, length-take-le, take_all, take-take, get_or_default, get_or-take, get_or_append_left, reverse-append}
+use Rattle.std.proofs.Common.{◌≡◌, ◌≢◌, ◌+◌, ◌-◌, ◌*◌, ◌<◌, ◌≤◌, ◌++◌, ◌∷◌, [], ◌⊎◌, inl, inr, ℕ, zero, suc, List, refl, sym, ap, subst, ◌∙◌, length, get_or, take, drop, reverse, length-append, append-nil, Bool, true, false, arith}
+use Rattle.std.specs.Prelude.{ℤ, pos, negsuc, neg_ℤ, nat_abs, not, All, Any, Contains, IsSomeAnd, IsTrue, slice_get, ◌↔◌}
+use Rattle.std.proofs.Math.IntN.{neg_ℤ-neg_ℤ}
+use Rattle.std.proofs.lemmas.List.{length-map, length_push, length-take-le, take-take, get_or_default, get_or-take, get_or_append_left, reverse-append}
 use Rattle.std.proofs.lemmas.List.Elements.{All-contains, All-append, Contains-get_or}
 use Rattle.rup_checker.specs.declared.log.Step.{Step}
 use Rattle.rup_checker.specs.Formulas.{Cnf, IsLiteral, truth, listed}
 use Rattle.rup_checker.specs.Steps.{IsAllFalse, IsUnit, Propagates, Refutes, IsAccepted}
 use Rattle.rup_checker.specs.Stores.{clause_at}
-use Rattle.rup_checker.specs.Logs.{known, added, Each, AreAccepted, IsQuiet, IsComplete, IsNew, IsBusy, Strengthens, Grows}
+use Rattle.rup_checker.specs.Logs.{known, added, Each, AreAccepted, IsQuiet, IsComplete, IsNew, IsBusy, IsOneEmpowering, Grows}
 use Rattle.cdcl_solver.specs.declared.analysis.Explained.{Explained}
 use Rattle.cdcl_solver.specs.declared.trail.Assigned.{Assigned}
-use Rattle.cdcl_solver.specs.declared.trail.Reason.{Reason}
 use Rattle.cdcl_solver.specs.declared.trail.Reason.TheVariants as reason
-use Rattle.cdcl_solver.specs.Watches.{AreApart}
-use Rattle.cdcl_solver.specs.Trails.{falses, IsTrail}
+use Rattle.cdcl_solver.specs.Trails.{falses}
 use Rattle.cdcl_solver.specs.Searches.{Searched, taken, IsSearch, IsSettled, IsFresh, IsImplied, IsAsserting, IsLearnt, AreSame, GoesOn, assigned}
-use Rattle.cdcl_solver.specs.Explanations.{Derives, IsBack, IsExplained}
+use Rattle.cdcl_solver.specs.Explanations.{IsBack, IsExplained}
 use Rattle.cdcl_solver.specs.Answers.{IsModel, IsRefutation, IsSpent}
 use Rattle.cdcl_solver.proofs.Members.{IsWithin, none_in, all_from_in, decide_in}
 use Rattle.cdcl_solver.proofs.Asserting.{nothing, decision_safe}
@@ -27,10 +25,9 @@ use Rattle.cdcl_solver.proofs.Derivations.{derives_more, derives_refutes, some_a
 use Rattle.cdcl_solver.proofs.Learning.{learnt_new, learnt_grows}
 use Rattle.cdcl_solver.proofs.Rewatching.{unit_same, number_within}
 use Rattle.cdcl_solver.proofs.Safety.{all_quiet}
-use Rattle.cdcl_solver.proofs.Short.{trail_short}
 use Rattle.cdcl_solver.proofs.Steps.{known_push, each_push, each_none}
-use Rattle.cdcl_solver.proofs.TrailParts.{IsConsistent, false_since, falses_front, trail_front, trail_consistent}
-use Rattle.cdcl_solver.proofs.Visiting.{same_trans, goes_on_taken}
+use Rattle.cdcl_solver.proofs.TrailParts.{IsConsistent, false_since, trail_front, trail_consistent}
+use Rattle.cdcl_solver.proofs.Visiting.{same_trans}
 
 -- the log is busy but for its end, the search has its clauses, and decided nothing before it started
 pub record IsSolving (f : Cnf) (s : Searched) (steps : List Step) : Type 0 where
@@ -49,7 +46,7 @@ solving_starts f s steps search fresh none = subst (IsSolving f s) (sym none) (r
   same = subst (λ (cs : List (List ℤ)). AreSame cs s.clauses) (sym (append-nil f.clauses)) fresh.clauses;
   accepted = each_none (λ clauses r. IsAccepted f.variables clauses r.clause r.hints) f;
   new = each_none (λ clauses r. IsNew clauses r.clause) f;
-  grows = each_none (λ clauses r. Strengthens clauses r.clause) f;
+  grows = each_none (λ clauses r. IsOneEmpowering clauses r.clause) f;
   begun = inr (subst (All IsImplied) (sym fresh.trail) (λ k d low. absurd (omega (arith, low))));
 })
 
@@ -225,7 +222,7 @@ module _ (f : Cnf) (s : Searched) (steps : List Step) (h : IsSolving f s steps) 
     step_new : IsNew (known f steps) e.clause
     step_new = learnt_new (known f steps) before e.clause u complete (Contains-get_or e.clause 0 (pos 0) some) others free.0 free.1 clause_consistent
 
-    step_grows : Strengthens (known f steps) e.clause
+    step_grows : IsOneEmpowering (known f steps) e.clause
     step_grows = learnt_grows (known f steps) before e.clause u complete (Contains-get_or e.clause 0 (pos 0) some) others free.0 free.1 before_consistent
 
     pub is_spent : (budget : ℕ) → length steps ≡ budget → IsSpent f budget steps
@@ -269,7 +266,7 @@ module _ (f : Cnf) (s : Searched) (steps : List Step) (h : IsSolving f s steps) 
       accepted = each_push (λ clauses r. IsAccepted f.variables clauses r.clause r.hints) f steps step h.accepted
           (subst (λ (c : List ℤ). IsAccepted f.variables (known f steps) c step.hints) (sym is) (step_accepted step.hints is_hints));
       new = each_push (λ clauses r. IsNew clauses r.clause) f steps step h.new (subst (IsNew (known f steps)) (sym is) step_new);
-      grows = each_push (λ clauses r. Strengthens clauses r.clause) f steps step h.grows (subst (Strengthens (known f steps)) (sym is) step_grows);
+      grows = each_push (λ clauses r. IsOneEmpowering clauses r.clause) f steps step h.grows (subst (IsOneEmpowering (known f steps)) (sym is) step_grows);
       begun = inl (learnt.started ∙ is_started);
     })
 

@@ -1,23 +1,21 @@
 -- The state of a search after one more literal.
-use Rattle.std.proofs.Common.{◌≡◌, ◌≢◌, ◌+◌, ◌<◌, ◌≤◌, ◌++◌, ◌∷◌, [], ◌⊎◌, inl, inr, ℕ, zero, suc, List, refl, sym, ap, subst, ◌∙◌, length, get_or, take, Bool, true, arith, append_assoc}
-use Rattle.std.specs.Prelude.{ℤ, pos, neg_ℤ, All, Contains, Option, Some, None, slice_get, ◌↔◌}
-use Rattle.std.proofs.Math.IntN.{ℤ_discrete, neg_ℤ-neg_ℤ}
+use Rattle.std.proofs.Common.{◌≡◌, ◌≢◌, ◌++◌, ◌∷◌, [], inl, inr, ℕ, zero, suc, List, sym, ap, subst, ◌∙◌, get_or, arith}
+use Rattle.std.specs.Prelude.{ℤ, neg_ℤ, Contains, Option, Some, slice_get, ◌↔◌}
+use Rattle.std.proofs.Math.IntN.{ℤ_discrete}
 use Rattle.std.proofs.lemmas.List.{length_push, take-append-le}
-use Rattle.std.proofs.lemmas.List.Elements.{All-contains, All-nil, All-push, All-append, Contains-append_left, Contains-push, Contains-push_cases}
+use Rattle.std.proofs.lemmas.List.Elements.{All-contains, Contains-append_left, Contains-push, Contains-push_cases}
 use Rattle.rup_checker.specs.Formulas.{IsLiteral}
-use Rattle.rup_checker.specs.Steps.{IsUnit}
 use Rattle.rup_checker.specs.Stores.{clause_at}
 use Rattle.cdcl_solver.specs.declared.trail.Assigned.{Assigned}
 use Rattle.cdcl_solver.specs.declared.trail.Reason.{Reason}
 use Rattle.cdcl_solver.specs.declared.trail.Reason.TheVariants as reason
-use Rattle.cdcl_solver.specs.declared.watches.Watch.{Watch}
 use Rattle.cdcl_solver.specs.Literals.{Marking, IsMarked, Marks}
-use Rattle.cdcl_solver.specs.Watches.{Lists, IsSafe}
-use Rattle.cdcl_solver.specs.Trails.{falses, IsReason, IsJustified, IsTrail}
+use Rattle.cdcl_solver.specs.Watches.{IsSafe}
+use Rattle.cdcl_solver.specs.Trails.{falses, IsReason, IsJustified}
 use Rattle.cdcl_solver.specs.Searches.{Searched, taken, followed_up, IsSearch, IsMarkedSearch, assigned, IsLast, IsConflict}
 use Rattle.cdcl_solver.proofs.Members.{IsWithin, all_from_in}
 use Rattle.cdcl_solver.proofs.Safety.{safe_later}
-use Rattle.cdcl_solver.proofs.TrailParts.{falses_push, falses_front, trail_push, trail_consistent}
+use Rattle.cdcl_solver.proofs.TrailParts.{falses_push, trail_push}
 
 -- what is read at a place
 pub at_get : {X : Type 0} (xs : List X) (k : ℕ) (x d : X) → slice_get xs k ≡ Some x → get_or xs k d ≡ x
@@ -90,14 +88,17 @@ module _ (s : Searched) (a : Assigned) (search : IsSearch s) where
   last_justified number last is free opposite = record {
     in_range = All-contains (IsLiteral s.variables) (clause_at s.clauses number) a.literal (search.clauses.in_range number [] last.there) last.stands;
     free = (free, opposite);
-    reason = subst (λ (r : Reason). IsReason s.clauses (taken s) a.literal r) (sym is) (last.there, record {
-      stands = last.stands;
-      left = free;
-      alone = λ m here out. elim (ℤ_discrete m a.literal) [
-        | yes e ↦ e
-        | no ne ↦ absurd (out (last.others m here ne))
-      ];
-    });
+    reason = subst (λ (r : Reason). IsReason s.clauses (taken s) a.literal r) (sym is) (
+      last.there,
+      record {
+        stands = last.stands;
+        left = free;
+        alone = λ m here out. elim (ℤ_discrete m a.literal) [
+          | yes e ↦ e
+          | no ne ↦ absurd (out (last.others m here ne))
+        ];
+      },
+    );
   }
 
 -- a clause whose one literal that may be left is false too

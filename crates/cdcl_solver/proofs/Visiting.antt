@@ -1,26 +1,25 @@
 -- What a look at a clause leaves.
-use Rattle.std.proofs.Common.{◌≡◌, ◌≢◌, ◌+◌, ◌-◌, ◌<◌, ◌≤◌, ◌++◌, ◌∷◌, [], ◌⊎◌, inl, inr, ℕ, zero, suc, List, refl, sym, ap, subst, ◌∙◌, length, get_or, take, Bool, true, false, arith, append_assoc, append-nil}
-use Rattle.std.specs.Prelude.{ℤ, pos, neg_ℤ, All, Any, Contains, ◌↔◌, swap, slice_get, Option, Some, None, Result, Ok, Err, IfOk, OnOk}
+use Rattle.std.proofs.Common.{◌≡◌, ◌≢◌, ◌-◌, ◌<◌, ◌≤◌, ◌++◌, ◌∷◌, [], ◌⊎◌, inl, inr, ℕ, zero, suc, List, refl, sym, ap, subst, ◌∙◌, length, get_or, take, true, false, arith, append_assoc, append-nil}
+use Rattle.std.specs.Prelude.{ℤ, pos, neg_ℤ, All, Contains, ◌↔◌, swap, Option, Some, None, Result, Ok, Err, IfOk, OnOk}
 use Rattle.std.proofs.Math.Decide.{ℕ_discrete}
 use Rattle.std.proofs.Math.IntN.{ℤ_discrete}
 use Rattle.std.proofs.Math.ListN.{set, length-set}
-use Rattle.std.proofs.lemmas.List.{get_or_default, get_or_past, take-append-le, length-take-le, get_or-take, map-append}
-use Rattle.std.proofs.lemmas.List.Elements.{All-contains, All-get_or, All-nil, All-cons, All-append, Contains-get_or, Contains-append_left, Contains-push, Contains-push_cases}
+use Rattle.std.proofs.lemmas.List.{get_or_default, take-append-le, map-append}
+use Rattle.std.proofs.lemmas.List.Elements.{All-nil, All-cons, All-append, Contains-append_left, Contains-push, Contains-push_cases}
 use Rattle.rup_checker.specs.Formulas.{IsLiteral}
 use Rattle.rup_checker.specs.Stores.{clause_at}
 use Rattle.cdcl_solver.specs.declared.trail.Assigned.{Assigned}
-use Rattle.cdcl_solver.specs.declared.trail.Reason.{Reason}
 use Rattle.cdcl_solver.specs.declared.trail.Reason.TheVariants as reason
 use Rattle.cdcl_solver.specs.declared.watches.Watch.{Watch}
 use Rattle.cdcl_solver.specs.declared.search.Rewatch.{Rewatch}
-use Rattle.cdcl_solver.specs.Watches.{Lists, listed, AreApart, IsWatched, IsWatch, AreWatched, HasTrue, HasOpenPair, IsSafe}
+use Rattle.cdcl_solver.specs.Watches.{listed, IsWatched, IsWatch, IsSafe}
 use Rattle.cdcl_solver.specs.Trails.{falses}
-use Rattle.cdcl_solver.specs.Searches.{Searched, taken, followed_up, IsSearch, IsRewatch, IsRewatched, IsVisited, IsFound, IsTakenUp, IsLast, IsConflict, IsImplied, GoesOn, AreSame, AreSafeAfter, assigned, number_at}
-use Rattle.cdcl_solver.proofs.Members.{IsWithin, all_from_in}
-use Rattle.cdcl_solver.proofs.Moved.{Moves, clause_same, clause_other, any_in, in_any}
+use Rattle.cdcl_solver.specs.Searches.{Searched, taken, followed_up, IsSearch, IsRewatch, IsRewatched, IsVisited, IsFound, IsTakenUp, IsLast, IsConflict, IsImplied, GoesOn, AreSame, assigned, number_at}
+use Rattle.cdcl_solver.proofs.Members.{IsWithin}
+use Rattle.cdcl_solver.proofs.Moved.{Moves, clause_same, clause_other}
 use Rattle.cdcl_solver.proofs.Rewatching.{moved, number_within}
 use Rattle.cdcl_solver.proofs.Safety.{safe_later}
-use Rattle.cdcl_solver.proofs.States.{more_taken, same_followed, taken_push}
+use Rattle.cdcl_solver.proofs.States.{taken_push}
 use Rattle.cdcl_solver.proofs.TrailParts.{falses_front}
 
 -- where a literal and the other one of the first two stand, read of the clause itself
@@ -133,7 +132,7 @@ module _ (s : Searched) (l : ℤ) (at number : ℕ) (search : IsSearch s) (lit :
     other_differs : other ≢ l
     other_differs e =
         let f = search.clauses.apart number [] number_low mine (1 - mine) l (omega (arith, two, few)) (omega (arith, two, few))
-            (is_mine ∙ sym (get_or_default c (1 - mine) l other (omega (arith, two, few)) ∙ is_other ∙ e)) in omega (arith, f, few)
+        (is_mine ∙ sym (get_or_default c (1 - mine) l other (omega (arith, two, few)) ∙ is_other ∙ e)) in omega (arith, f, few)
 
     other_watches : IsWatched c other
     other_watches = by_mine mine few is_other

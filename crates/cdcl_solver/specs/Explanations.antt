@@ -1,5 +1,5 @@
 -- What a walk down the trail makes of a false clause.
-use Rattle.std.specs.Prelude.{◌≡◌, ◌≢◌, ◌<◌, ◌≤◌, ◌⊎◌, ℕ, ℤ, pos, neg_ℤ, List, [], ◌∷◌, Contains, length, take, drop, reverse, slice_index_or}
+use Rattle.std.specs.Prelude.{◌≡◌, ◌≢◌, ◌<◌, ◌≤◌, ◌⊎◌, ℕ, ℤ, neg_ℤ, List, [], ◌∷◌, Contains, length, take, drop, reverse, slice_index_or}
 use Rattle.rup_checker.specs.Stores.{clause_at}
 use Rattle.cdcl_solver.specs.declared.analysis.Explained.{Explained}
 use Rattle.cdcl_solver.specs.declared.trail.Assigned.{Assigned}

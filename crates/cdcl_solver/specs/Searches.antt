@@ -4,9 +4,7 @@ use Rattle.rup_checker.specs.Formulas.{Cnf, IsLiteral}
 use Rattle.rup_checker.specs.Steps.{IsAllFalse}
 use Rattle.rup_checker.specs.Stores.{clause_at}
 use Rattle.cdcl_solver.specs.declared.trail.Assigned.{Assigned}
-use Rattle.cdcl_solver.specs.declared.trail.Reason.{Reason}
 use Rattle.cdcl_solver.specs.declared.trail.Reason.TheVariants as reason
-use Rattle.cdcl_solver.specs.declared.watches.Watch.{Watch}
 use Rattle.cdcl_solver.specs.declared.search.Rewatch.{Rewatch}
 use Rattle.cdcl_solver.specs.Literals.{Marking, Marks}
 use Rattle.cdcl_solver.specs.Watches.{Lists, listed, AreWatched, AreApart, IsWatched, HasTrue, IsSafe}

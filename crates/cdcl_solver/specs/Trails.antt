@@ -1,5 +1,5 @@
 -- Trails: which literals are true, in the order in which they came to be, and why.
-use Rattle.std.specs.Prelude.{◌≡◌, ◌<◌, ◌++◌, ℕ, ℤ, neg_ℤ, List, All, Contains, length, map, take, slice_index_or}
+use Rattle.std.specs.Prelude.{◌<◌, ℕ, ℤ, neg_ℤ, List, All, Contains, length, map, take, slice_index_or}
 use Rattle.rup_checker.specs.Formulas.{IsLiteral}
 use Rattle.rup_checker.specs.Steps.{IsUnit}
 use Rattle.rup_checker.specs.Stores.{clause_at}

@@ -233,7 +233,12 @@ impl Search {
 
     /// Looks at a clause one of whose first two literals became false: another literal watches it from now on, or its one
     /// literal that is left is taken up.
-    fn visit_clause(&mut self, literal: i32, at: usize, number: u32) -> Result<Option<u32>, AllocError>
+    fn visit_clause(
+        &mut self,
+        literal: i32,
+        at: usize,
+        number: u32,
+    ) -> Result<Option<u32>, AllocError>
         requires in_range { IsLiteral self.old.variables literal }
         requires within { at < length (listed self.old.lists literal) }
         requires number { number_at self.old literal at ≡ number }
@@ -535,7 +540,14 @@ fn attach(clauses: &mut Store, watches: &mut Watches, clause: &[i32]) -> Result<
     if clause.len() >= 2 {
         let binary = clause.len() == 2;
         let (one, other) = (clause[0], clause[1]);
-        watches.push(one, Watch { number, other, binary })?;
+        watches.push(
+            one,
+            Watch {
+                number,
+                other,
+                binary,
+            },
+        )?;
         let watch = Watch {
             number,
             other: one,

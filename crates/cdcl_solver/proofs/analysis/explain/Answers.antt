@@ -1,4 +1,4 @@
-use Rattle.std.proofs.Common.{◌≡◌, ◌∙◌, ◌≤◌, ◌++◌, ◌∷◌, [], ℕ, List, sym, ap, subst, length, arith}
+use Rattle.std.proofs.Common.{◌≡◌, ◌∙◌, ◌++◌, ◌∷◌, [], ℕ, List, sym, ap, subst, length, arith}
 use Rattle.cdcl_solver.specs.Explanations.{IsExplained}
 use Rattle.cdcl_solver.proofs.Explaining.{starts}
 use Rattle.cdcl_solver.proofs.analysis.explain.Goals as goal

@@ -1,8 +1,6 @@
-use Rattle.std.proofs.Common.{rules, ◌≡◌, ◌∙◌, ◌+◌, ◌<◌, ◌++◌, ◌∷◌, [], ℕ, List, sym, ap, subst, refl, length, get_or, arith, pos, to_z, of_z, w32, Bool, false}
+use Rattle.std.proofs.Common.{rules, ◌≡◌, ◌∙◌, ◌<◌, ◌∷◌, [], ℕ, List, sym, ap, subst, refl, length, get_or, arith, to_z, of_z, w32}
 use Rattle.std.specs.Prelude.{ℤ, neg_ℤ}
-use Rattle.cdcl_solver.specs.declared.analysis.Explained.{Explained}
 use Rattle.cdcl_solver.specs.declared.trail.Assigned.{Assigned}
-use Rattle.cdcl_solver.specs.declared.trail.Reason.TheVariants as reason
 use Rattle.cdcl_solver.specs.Explanations.{IsExplained}
 use Rattle.cdcl_solver.proofs.Asserting.{nothing}
 use Rattle.cdcl_solver.proofs.Explaining.{on_push, denied_first, denied_more, reasoned}

@@ -1,8 +1,7 @@
-use Rattle.std.proofs.Common.{rules, ◌≡◌, ◌∙◌, ◌<◌, ◌≤◌, ◌++◌, ◌∷◌, [], ℕ, List, sym, ap, subst, refl, length, get_or, arith, pos, to_z, of_z, w32, true, false, Bool, nat_eq}
+use Rattle.std.proofs.Common.{rules, ◌≡◌, List, sym, subst, refl, length, get_or, arith, pos, to_z, of_z, w32}
 use Rattle.std.specs.Prelude.{ℤ}
 use Rattle.std.proofs.lemmas.Bool.Decides.{Decides-eqb}
-use Rattle.cdcl_solver.specs.declared.watches.Watch.{Watch}
-use Rattle.cdcl_solver.specs.Watches.{Lists, listed, AreWatched}
+use Rattle.cdcl_solver.specs.Watches.{listed, AreWatched}
 use Rattle.cdcl_solver.proofs.Attaching.{watched_short, watched_long}
 use Rattle.cdcl_solver.proofs.search.attach.Goals as goal
 

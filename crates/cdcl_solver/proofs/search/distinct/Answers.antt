@@ -1,5 +1,5 @@
-use Rattle.std.proofs.Common.{rules, ◌≡◌, ◌≢◌, ◌∙◌, ◌+◌, ◌-◌, ◌<◌, ◌≤◌, ◌++◌, ◌∷◌, [], ◌⊎◌, inl, inr, ℕ, List, sym, ap, subst, refl, length, get_or, take, drop, arith, pos, to_z, of_z, w32, Option, None, Some, true, false, Bool}
-use Rattle.std.specs.Prelude.{ℤ, neg_ℤ, Contains, All, ◌↔◌, slice_get, IsTrue}
+use Rattle.std.proofs.Common.{rules, ◌≡◌, ◌∙◌, ℕ, List, sym, subst, get_or, pos, to_z, of_z, w32}
+use Rattle.std.specs.Prelude.{ℤ, Contains, All, ◌↔◌}
 use Rattle.rup_checker.specs.Formulas.{IsLiteral}
 use Rattle.std.proofs.lemmas.List.{take_all}
 use Rattle.cdcl_solver.proofs.Marking.{same_more, range_front}

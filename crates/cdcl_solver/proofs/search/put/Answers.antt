@@ -1,5 +1,5 @@
-use Rattle.std.proofs.Common.{rules, ◌≡◌, ◌≢◌, ◌∙◌, ◌+◌, ◌-◌, ◌<◌, ◌≤◌, ◌++◌, ◌∷◌, [], ◌⊎◌, inl, inr, ℕ, List, sym, ap, subst, refl, length, get_or, take, drop, arith, pos, to_z, of_z, w32, Option, None, Some, true, false, Bool}
-use Rattle.std.specs.Prelude.{ℤ, neg_ℤ, Contains, All, ◌↔◌, slice_get, IsTrue}
+use Rattle.std.proofs.Common.{rules, ◌≡◌, ◌∙◌, sym, subst, to_z, of_z, w32, true, false}
+use Rattle.std.specs.Prelude.{ℤ, Contains}
 use Rattle.cdcl_solver.specs.Literals.{IsMarked}
 use Rattle.cdcl_solver.specs.Watches.{AreApart}
 use Rattle.cdcl_solver.proofs.Apart.{apart_push}

@@ -1,12 +1,8 @@
-use Rattle.std.proofs.Common.{◌≡◌, ◌≢◌, ◌∙◌, ◌+◌, ◌-◌, ◌*◌, ◌<◌, ◌≤◌, ◌++◌, ◌∷◌, [], ℕ, List, sym, ap, subst, refl, length, length-append, take, reverse, arith, Option, None, Some, true, false, Bool}
-use Rattle.std.specs.Prelude.{ℤ, Contains, IsTrue}
-use Rattle.std.specs.Option.{IfSome, IfNone}
+use Rattle.std.proofs.Common.{◌≡◌, ◌∙◌, ◌+◌, ◌<◌, ◌∷◌, [], ℕ, List, sym, ap, subst, refl, length, length-append, take, reverse, arith, Option, true, false}
+use Rattle.std.specs.Prelude.{ℤ, Contains}
+use Rattle.std.specs.Option.{IfNone}
 use Rattle.std.proofs.lemmas.List.{length_push}
-use Rattle.std.proofs.lemmas.List.Elements.{All-contains}
-use Rattle.rup_checker.specs.declared.log.Step.{Step}
 use Rattle.rup_checker.specs.Logs.{IsComplete}
-use Rattle.cdcl_solver.specs.declared.trail.Assigned.{Assigned}
-use Rattle.cdcl_solver.specs.declared.trail.Reason.TheVariants as reason
 use Rattle.cdcl_solver.specs.Searches.{Searched, taken, IsSettled, IsAsserting, IsLearnt}
 use Rattle.cdcl_solver.proofs.Short.{trail_short}
 use Rattle.cdcl_solver.proofs.Solving.{solving_goes_on, solving_decides, solving_learns, is_refuted, is_spent, is_started, back_decided, back_settled, back_asserting, is_model}

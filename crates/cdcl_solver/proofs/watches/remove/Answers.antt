@@ -1,7 +1,7 @@
-use Rattle.std.proofs.Common.{◌≡◌, List, sym, ap, ◌∙◌, arith}
+use Rattle.std.proofs.Common.{List, sym, ap, ◌∙◌, arith}
 use Rattle.std.specs.List.{swap_remove}
 use Rattle.cdcl_solver.specs.declared.watches.Watch.{Watch}
-use Rattle.cdcl_solver.proofs.Lists.{removed_inside, removed_last}
+use Rattle.cdcl_solver.proofs.Lists.{removed_inside}
 use Rattle.cdcl_solver.proofs.watches.remove.Goals as goal
 
 pub returns-then-at-len : goal.returns-then-at-len

@@ -1,6 +1,5 @@
-use Rattle.std.proofs.Common.{rules, ◌≡◌, ◌∙◌, ◌+◌, ◌-◌, ◌<◌, ◌≤◌, ◌++◌, ◌∷◌, [], ℕ, List, sym, ap, subst, refl, length, get_or, arith, pos, to_z, of_z, w32, Option, None, Some, true, false}
-use Rattle.std.specs.Prelude.{ℤ, Contains}
-use Rattle.cdcl_solver.specs.Searches.{Searched, IsSearch, IsWaiting, AreSafeAfter}
+use Rattle.std.proofs.Common.{sym, subst, arith}
+use Rattle.cdcl_solver.specs.Searches.{Searched, IsWaiting, AreSafeAfter}
 use Rattle.cdcl_solver.proofs.Settling.{advanced, few_followed}
 use Rattle.cdcl_solver.proofs.search.Search.advance.Goals as goal
 

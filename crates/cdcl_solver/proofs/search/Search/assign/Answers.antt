@@ -1,6 +1,6 @@
-use Rattle.std.proofs.Common.{◌≡◌, ◌++◌, ◌∷◌, [], ◌∙◌, ap, sym, subst, refl, rules, to_z, of_z, w32}
+use Rattle.std.proofs.Common.{◌≡◌, ◌++◌, ◌∷◌, [], ◌∙◌, ap, sym, subst, rules, to_z, of_z, w32}
 use Rattle.std.specs.Prelude.{ℤ, neg_ℤ}
-use Rattle.cdcl_solver.specs.Searches.{Searched, taken, IsSearch}
+use Rattle.cdcl_solver.specs.Searches.{Searched, taken}
 use Rattle.cdcl_solver.specs.Trails.{IsJustified}
 use Rattle.cdcl_solver.proofs.States.{assigned_both}
 use Rattle.cdcl_solver.proofs.search.Search.assign.Goals as goal

@@ -1,7 +1,7 @@
-use Rattle.std.proofs.Common.{rules, ◌≡◌, ◌≢◌, ◌∙◌, ◌+◌, ◌-◌, ◌<◌, ◌≤◌, ◌++◌, ◌∷◌, [], ◌⊎◌, inl, inr, ℕ, List, sym, ap, subst, refl, length, get_or, take, drop, arith, pos, to_z, of_z, w32, Option, None, Some, true, false, Bool}
-use Rattle.std.specs.Prelude.{ℤ, neg_ℤ, Contains, All, ◌↔◌, slice_get, IsTrue}
+use Rattle.std.proofs.Common.{rules, ◌≡◌, ◌∙◌, ◌+◌, ◌<◌, ◌∷◌, [], ◌⊎◌, inl, inr, ℕ, List, sym, ap, subst, length, get_or, arith, pos, to_z, of_z, w32, false, Bool}
+use Rattle.std.specs.Prelude.{ℤ, neg_ℤ, Contains, ◌↔◌, IsTrue}
 use Rattle.std.proofs.lemmas.List.{length_push, get_or_append_left, get_or_push}
-use Rattle.cdcl_solver.specs.Searches.{Searched, taken}
+use Rattle.cdcl_solver.specs.Searches.{taken}
 use Rattle.cdcl_solver.proofs.search.Search.assignment.Goals as goal
 
 pub loop-variable-preserved : goal.loop-variable-preserved

@@ -1,5 +1,5 @@
 use Rattle.std.proofs.Common.{◌≡◌, ◌+◌, ◌<◌, ℕ, length, get_or, false}
-use Rattle.std.specs.Prelude.{ℤ, pos, neg_ℤ, ◌↔◌, IsTrue, Contains}
+use Rattle.std.specs.Prelude.{pos, neg_ℤ, ◌↔◌, IsTrue, Contains}
 use Rattle.cdcl_solver.specs.Searches.{taken}
 use Rattle.cdcl_solver.proofs.search.Search.assignment.Given as goal
 

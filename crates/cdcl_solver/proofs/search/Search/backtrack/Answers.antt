@@ -1,12 +1,9 @@
-use Rattle.std.proofs.Common.{rules, ◌≡◌, ◌∙◌, ◌<◌, ◌≤◌, ◌++◌, ◌∷◌, [], ℕ, List, sym, ap, subst, refl, length, take, get_or, arith, pos, to_z, of_z, w32}
-use Rattle.std.specs.Prelude.{ℤ, neg_ℤ}
+use Rattle.std.proofs.Common.{rules, ◌≡◌, ◌∙◌, ◌<◌, ℕ, sym, ap, subst, length, take, get_or, arith, to_z, of_z, w32}
+use Rattle.std.specs.Prelude.{neg_ℤ}
 use Rattle.std.proofs.lemmas.List.{length_push}
 use Rattle.rup_checker.specs.Stores.{Stored}
-use Rattle.cdcl_solver.specs.declared.trail.Assigned.{Assigned}
 use Rattle.cdcl_solver.specs.declared.trail.Reason.TheVariants as reason
-use Rattle.cdcl_solver.specs.Literals.{Marks}
-use Rattle.cdcl_solver.specs.Trails.{falses}
-use Rattle.cdcl_solver.specs.Searches.{Searched, IsSearch, IsMarkedSearch}
+use Rattle.cdcl_solver.specs.Searches.{Searched, IsSearch}
 use Rattle.cdcl_solver.proofs.Asserting.{nothing, backtracked}
 use Rattle.cdcl_solver.proofs.Retracting.{still_front, still_marks, retracted_is}
 use Rattle.cdcl_solver.proofs.search.Search.backtrack.Goals as goal

@@ -27,7 +27,7 @@ loop-place-preserved c = λ k d far less. elim (place k c.loop-place.place less)
       let is = at_get c.self.inside.clauses.clauses c.args.number clause [] c.clause-clause.ensures in
       let read : get_or c.clause-clause.result.now k d ≡ l = ap (λ (n : ℕ). get_or c.clause-clause.result.now n d) last ∙ get_or_default c.clause-clause.result.now c.loop-place.place d (pos 0) c.loop-place-test.true in
       let lit = subst (IsLiteral c.self.inside.falsified.variables) read
-          (subst (λ (xs : List ℤ). All (IsLiteral c.self.inside.falsified.variables) xs) is (c.self.invariant.search.clauses.in_range c.args.number [] (subst (λ (t : Searched). c.args.number < length t.clauses) (sym c.self.view_is) c.requires)) k d here) in
+      (subst (λ (xs : List ℤ). All (IsLiteral c.self.inside.falsified.variables) xs) is (c.self.invariant.search.clauses.in_range c.args.number [] (subst (λ (t : Searched). c.args.number < length t.clauses) (sym c.self.view_is) c.requires)) k d here) in
       subst (Contains (falses c.self.inside.trail)) (sym read) ((c.self.invariant.marks l lit).0 (subst (IsMarked c.self.inside.falsified) same (c.if-not-contains.ensures.0 refl)))
 ]
   where

@@ -1,6 +1,5 @@
-use Rattle.std.proofs.Common.{◌≡◌, ◌<◌, ◌≤◌, ℕ, length, get_or}
+use Rattle.std.proofs.Common.{◌<◌, ◌≤◌, ℕ, get_or}
 use Rattle.std.specs.Prelude.{ℤ, Contains}
-use Rattle.rup_checker.specs.Stores.{clause_at}
 use Rattle.cdcl_solver.specs.Trails.{falses}
 use Rattle.cdcl_solver.proofs.search.Search.find_open.Given as goal
 

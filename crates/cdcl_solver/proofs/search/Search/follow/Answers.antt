@@ -1,7 +1,6 @@
-use Rattle.std.proofs.Common.{rules, ◌≡◌, ◌∙◌, ◌+◌, ◌-◌, ℕ, List, sym, ap, subst, length, arith, to_z, of_z, w32, Option, None}
-use Rattle.std.specs.Prelude.{ℤ, Contains}
+use Rattle.std.proofs.Common.{rules, ◌≡◌, ◌+◌, ◌-◌, ℕ, sym, ap, subst, length, arith, to_z, of_z, w32, Option}
+use Rattle.std.specs.Prelude.{Contains}
 use Rattle.rup_checker.specs.Formulas.{IsLiteral}
-use Rattle.cdcl_solver.specs.declared.watches.Watch.{Watch}
 use Rattle.cdcl_solver.specs.Watches.{listed}
 use Rattle.cdcl_solver.specs.Searches.{Searched, taken, IsSearch, IsFound, number_at}
 use Rattle.cdcl_solver.proofs.Visiting.{goes_on_trans}
@@ -12,7 +11,7 @@ pub loop-at-init : goal.loop-at-init
 loop-at-init c =
     let own : to_z w32 (of_z w32 c.args.literal) ≡ c.args.literal = search rules in
     let ws : c.of-at.result.now ≡ listed c.args.self.now.lists (to_z w32 (of_z w32 c.args.literal)) =
-        subst (λ (s : Searched). c.of-at.result.now ≡ listed s.lists (to_z w32 (of_z w32 c.args.literal))) c.self.view_is c.of-at.ensures in
+    subst (λ (s : Searched). c.of-at.result.now ≡ listed s.lists (to_z w32 (of_z w32 c.args.literal))) c.self.view_is c.of-at.ensures in
     subst (λ (k : ℕ). IsFollowing c.args.self.now c.args.self.now (to_z w32 (of_z w32 c.args.literal)) k) (ap length (sym ws))
     (following_starts c.args.self.now (to_z w32 (of_z w32 c.args.literal)) (subst IsSearch c.self.view_is c.self.invariant.search)
     (subst (IsLiteral c.args.self.now.variables) (sym own) c.requires.in_range) (subst (Contains (taken c.args.self.now)) (sym own) c.requires.falsified))

@@ -1,10 +1,3 @@
-use Rattle.std.proofs.Common.{◌≡◌, ◌<◌, ◌≤◌, ◌++◌, ◌∷◌, [], ◌⊎◌, ℕ, length, take}
-use Rattle.std.specs.Prelude.{ℤ, Any, Contains}
-use Rattle.rup_checker.specs.Formulas.{IsLiteral}
-use Rattle.rup_checker.specs.Stores.{clause_at}
-use Rattle.cdcl_solver.specs.declared.watches.Watch.{Watch}
-use Rattle.cdcl_solver.specs.Watches.{listed, IsSafe}
-use Rattle.cdcl_solver.specs.Searches.{Searched, taken, followed_up, IsSearch, GoesOn}
 use Rattle.cdcl_solver.proofs.Following.{IsFollowing}
 use Rattle.cdcl_solver.proofs.search.Search.follow.Given as goal
 

@@ -1,11 +1,11 @@
-use Rattle.std.proofs.Common.{rules, ◌≡◌, ◌∙◌, ◌+◌, ◌-◌, ◌<◌, ◌≤◌, ◌++◌, ◌∷◌, [], ℕ, List, sym, ap, subst, refl, length, get_or, arith, pos, to_z, of_z, w32, Option, None, Some, true, false}
+use Rattle.std.proofs.Common.{rules, ◌≡◌, ◌∙◌, ◌<◌, ◌≤◌, ◌∷◌, [], List, sym, ap, subst, refl, length, get_or, arith, pos, to_z, of_z, w32, Some, true, false}
 use Rattle.std.specs.Prelude.{ℤ, Contains, neg_ℤ, slice_get, IfOk, Bool}
 use Rattle.std.proofs.lemmas.Bool.Decides.{Decides-eqb}
 use Rattle.std.proofs.lemmas.List.{nil_from_length}
 use Rattle.std.proofs.lemmas.List.Elements.{All-contains}
 use Rattle.rup_checker.specs.Formulas.{IsLiteral}
 use Rattle.rup_checker.specs.Stores.{clause_at}
-use Rattle.cdcl_solver.specs.Searches.{Searched, taken, IsSearch, IsLast, IsTakenUp, IsLookedAt}
+use Rattle.cdcl_solver.specs.Searches.{Searched, taken, IsSearch, IsLast, IsTakenUp}
 use Rattle.cdcl_solver.proofs.States.{at_get}
 use Rattle.cdcl_solver.proofs.Settling.{looked_long, looked_empty, looked_true, looked_up, only, only_last}
 use Rattle.cdcl_solver.proofs.search.Search.look.Goals as goal
@@ -41,7 +41,7 @@ is_true-requires c =
     let state = subst IsSearch c.self.view_is c.self.invariant.search in
     let read : to_z w32 (of_z w32 (get_or c.clause-clause.result.now 0 (pos 0))) ≡ get_or c.clause-clause.result.now 0 (pos 0) = search rules in
     let same : to_z w32 (of_z w32 (get_or c.clause-clause.result.now 0 (pos 0))) ≡ get_or (clause_at c.args.self.now.clauses c.args.number) 0 (pos 0) =
-        read ∙ ap (λ (xs : List ℤ). get_or xs 0 (pos 0)) (sym is) in
+    read ∙ ap (λ (xs : List ℤ). get_or xs 0 (pos 0)) (sym is) in
     subst (IsLiteral c.args.self.now.variables) (sym same) (All-contains (IsLiteral c.args.self.now.variables) (clause_at c.args.self.now.clauses c.args.number) _
     (state.clauses.in_range c.args.number [] there) (only c.args.self.now c.args.number there some))
 
@@ -54,7 +54,7 @@ returns-then-is_true-clause-found c =
     let state = subst IsSearch c.self.view_is c.self.invariant.search in
     let read : to_z w32 (of_z w32 (get_or c.clause-clause.result.now 0 (pos 0))) ≡ get_or c.clause-clause.result.now 0 (pos 0) = search rules in
     let same : to_z w32 (of_z w32 (get_or c.clause-clause.result.now 0 (pos 0))) ≡ get_or (clause_at c.args.self.now.clauses c.args.number) 0 (pos 0) =
-        read ∙ ap (λ (xs : List ℤ). get_or xs 0 (pos 0)) (sym is) in
+    read ∙ ap (λ (xs : List ℤ). get_or xs 0 (pos 0)) (sym is) in
     looked_true c.args.self.now c.args.number there some (subst (λ (m : ℤ). Contains (taken c.args.self.now) (neg_ℤ m)) same (c.if-is_true.ensures.0 refl))
 
 pub take_up-requires-clause-in_range : goal.take_up-requires-clause-in_range
@@ -66,7 +66,7 @@ take_up-requires-clause-in_range c =
     let state = subst IsSearch c.self.view_is c.self.invariant.search in
     let read : to_z w32 (of_z w32 (get_or c.clause-clause.result.now 0 (pos 0))) ≡ get_or c.clause-clause.result.now 0 (pos 0) = search rules in
     let same : to_z w32 (of_z w32 (get_or c.clause-clause.result.now 0 (pos 0))) ≡ get_or (clause_at c.args.self.now.clauses c.args.number) 0 (pos 0) =
-        read ∙ ap (λ (xs : List ℤ). get_or xs 0 (pos 0)) (sym is) in
+    read ∙ ap (λ (xs : List ℤ). get_or xs 0 (pos 0)) (sym is) in
     subst (IsLiteral c.args.self.now.variables) (sym same) (All-contains (IsLiteral c.args.self.now.variables) (clause_at c.args.self.now.clauses c.args.number) _
     (state.clauses.in_range c.args.number [] there) (only c.args.self.now c.args.number there some))
 
@@ -79,7 +79,7 @@ take_up-requires-clause-last c =
     let state = subst IsSearch c.self.view_is c.self.invariant.search in
     let read : to_z w32 (of_z w32 (get_or c.clause-clause.result.now 0 (pos 0))) ≡ get_or c.clause-clause.result.now 0 (pos 0) = search rules in
     let same : to_z w32 (of_z w32 (get_or c.clause-clause.result.now 0 (pos 0))) ≡ get_or (clause_at c.args.self.now.clauses c.args.number) 0 (pos 0) =
-        read ∙ ap (λ (xs : List ℤ). get_or xs 0 (pos 0)) (sym is) in
+    read ∙ ap (λ (xs : List ℤ). get_or xs 0 (pos 0)) (sym is) in
     subst (IsLast c.args.self.now c.args.number) (sym same) (only_last c.args.self.now c.args.number there some (omega (arith, c.if-clause-ge2.false, ap length is)))
 
 pub returns-clause-found : goal.returns-clause-found
@@ -91,6 +91,6 @@ returns-clause-found c =
     let state = subst IsSearch c.self.view_is c.self.invariant.search in
     let read : to_z w32 (of_z w32 (get_or c.clause-clause.result.now 0 (pos 0))) ≡ get_or c.clause-clause.result.now 0 (pos 0) = search rules in
     let same : to_z w32 (of_z w32 (get_or c.clause-clause.result.now 0 (pos 0))) ≡ get_or (clause_at c.args.self.now.clauses c.args.number) 0 (pos 0) =
-        read ∙ ap (λ (xs : List ℤ). get_or xs 0 (pos 0)) (sym is) in
+    read ∙ ap (λ (xs : List ℤ). get_or xs 0 (pos 0)) (sym is) in
     looked_up c.args.self.now c.args.number there state c.take_up.new.self _ (only_last c.args.self.now c.args.number there some (omega (arith, c.if-clause-ge2.false, ap length is))) c.take_up.result
     (subst (λ (m : ℤ). IfOk c.take_up.result (IsTakenUp c.args.self.now c.take_up.new.self c.args.number m)) same c.take_up.ensures.found)

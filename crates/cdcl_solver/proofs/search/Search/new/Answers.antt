@@ -1,9 +1,8 @@
-use Rattle.std.proofs.Common.{rules, ◌≡◌, ◌≢◌, ◌∙◌, ◌+◌, ◌-◌, ◌<◌, ◌≤◌, ◌++◌, ◌∷◌, [], ◌⊎◌, inl, inr, ℕ, List, sym, ap, subst, refl, length, get_or, take, drop, arith, pos, to_z, of_z, w32, Option, None, Some, true, false, Bool}
-use Rattle.std.specs.Prelude.{ℤ, neg_ℤ, Contains, All, ◌↔◌, slice_get, IsTrue}
+use Rattle.std.proofs.Common.{◌≡◌, ◌∙◌, ◌++◌, ◌∷◌, [], ℕ, List, sym, ap, subst, refl, length, arith}
+use Rattle.std.specs.Prelude.{ℤ, All}
 use Rattle.std.proofs.lemmas.List.{length_push}
 use Rattle.std.proofs.lemmas.List.Elements.{All-push}
 use Rattle.rup_checker.specs.Formulas.{IsLiteral}
-use Rattle.rup_checker.specs.Stores.{clause_at}
 use Rattle.cdcl_solver.specs.Watches.{listed, AreApart, AreWatched}
 use Rattle.cdcl_solver.proofs.States.{at_get}
 use Rattle.cdcl_solver.proofs.Marking.{range_same, clauses_more, clauses_all}
@@ -19,7 +18,7 @@ pub loop-number-preserved : goal.loop-number-preserved
 loop-number-preserved c =
     let i = c.loop-number.invariant in
     let more : c.attach.new.clauses.clauses ≡ c.loop-number.clauses.clauses ++ c.in_ok-clause.clause ∷ [] =
-        c.in_ok-attach.ensures.clauses ∙ ap (λ (ls : List ℤ). c.loop-number.clauses.clauses ++ ls ∷ []) c.as_slice.ensures in
+    c.in_ok-attach.ensures.clauses ∙ ap (λ (ls : List ℤ). c.loop-number.clauses.clauses ++ ls ∷ []) c.as_slice.ensures in
     let range = range_same c.args.formula.now.variables c.in_ok-clause.clause c.clause.result.now c.in_ok-clause.ensures.same c.clause.ensures.in_range in
     record {
       set = c.in_ok-clause.ensures.variables ∙ i.set;

@@ -1,5 +1,3 @@
-use Rattle.std.proofs.Common.{rules, ◌≡◌, ◌∙◌, ◌+◌, ◌-◌, ◌<◌, ◌≤◌, ◌++◌, ◌∷◌, [], ℕ, List, sym, ap, subst, refl, length, get_or, arith, pos, to_z, of_z, w32, Option, None, Some, true, false}
-use Rattle.std.specs.Prelude.{ℤ, Contains}
 use Rattle.cdcl_solver.proofs.Visiting.{goes_on_trans}
 use Rattle.cdcl_solver.proofs.search.Search.propagate.Goals as goal
 

@@ -1,7 +1,6 @@
-use Rattle.std.proofs.Common.{rules, ◌≡◌, ◌∙◌, ◌+◌, ◌-◌, ◌<◌, ◌≤◌, ◌++◌, ◌∷◌, [], ℕ, List, sym, ap, subst, refl, length, get_or, arith, pos, to_z, of_z, w32, Option, None, Some, true, false}
-use Rattle.std.specs.Prelude.{ℤ, Contains}
-use Rattle.std.specs.Option.{IfSome}
-use Rattle.cdcl_solver.specs.Searches.{Searched, taken, IsSearch, IsWaiting, GoesOn}
+use Rattle.std.proofs.Common.{rules, ◌≡◌, ◌∙◌, ◌+◌, sym, ap, subst, arith, to_z, of_z, w32}
+use Rattle.std.specs.Prelude.{Contains}
+use Rattle.cdcl_solver.specs.Searches.{Searched, taken, IsWaiting, GoesOn}
 use Rattle.cdcl_solver.proofs.Settling.{waiting_false, waiting_kept, few_followed, advanced_goes_on, settled_quiet}
 use Rattle.cdcl_solver.proofs.Visiting.{goes_on_trans}
 use Rattle.cdcl_solver.proofs.search.Search.propagate_started.Goals as goal

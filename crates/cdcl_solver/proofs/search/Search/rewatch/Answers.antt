@@ -1,4 +1,4 @@
-use Rattle.std.proofs.Common.{rules, ◌≡◌, ◌∙◌, ◌<◌, ◌++◌, ◌∷◌, [], ℕ, List, sym, ap, subst, refl, length, get_or, arith, pos, to_z, of_z, w32, false}
+use Rattle.std.proofs.Common.{rules, ◌≡◌, ◌∙◌, ◌<◌, ◌++◌, ◌∷◌, [], ℕ, List, sym, subst, refl, length, get_or, pos, to_z, of_z, w32}
 use Rattle.std.specs.Prelude.{ℤ, slice_get, Some}
 use Rattle.std.specs.List.{swap_remove}
 use Rattle.rup_checker.specs.Formulas.{IsLiteral}

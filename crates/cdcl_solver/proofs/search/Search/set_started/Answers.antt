@@ -1,6 +1,5 @@
-use Rattle.std.proofs.Common.{rules, ◌≡◌, ◌∙◌, ◌+◌, ◌-◌, ◌<◌, ◌≤◌, ◌++◌, ◌∷◌, [], ℕ, List, sym, ap, subst, refl, length, get_or, arith, pos, to_z, of_z, w32, Option, None, Some, true, false}
-use Rattle.std.specs.Prelude.{ℤ, Contains}
-use Rattle.cdcl_solver.specs.Searches.{Searched, IsSearch, AreShortTrue}
+use Rattle.std.proofs.Common.{sym, subst, length}
+use Rattle.cdcl_solver.specs.Searches.{Searched, AreShortTrue}
 use Rattle.cdcl_solver.proofs.Settling.{started_search}
 use Rattle.cdcl_solver.proofs.search.Search.set_started.Goals as goal
 

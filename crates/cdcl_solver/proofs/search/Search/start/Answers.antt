@@ -1,6 +1,5 @@
-use Rattle.std.proofs.Common.{rules, ◌≡◌, ◌∙◌, ◌+◌, ◌-◌, ◌<◌, ◌≤◌, ◌++◌, ◌∷◌, [], ℕ, List, sym, ap, subst, refl, length, get_or, arith, pos, to_z, of_z, w32, Option, None, Some, true, false}
-use Rattle.std.specs.Prelude.{ℤ, Contains}
-use Rattle.cdcl_solver.specs.Searches.{Searched, IsSearch, IsLookedAt, GoesOn}
+use Rattle.std.proofs.Common.{◌∙◌, ℕ, subst, Option}
+use Rattle.cdcl_solver.specs.Searches.{IsLookedAt}
 use Rattle.cdcl_solver.proofs.Settling.{short_more}
 use Rattle.cdcl_solver.proofs.Visiting.{goes_on_trans}
 use Rattle.cdcl_solver.proofs.search.Search.start.Goals as goal

@@ -1,4 +1,4 @@
-use Rattle.std.proofs.Common.{◌≡◌, false}
+use Rattle.std.proofs.Common.{◌≡◌}
 use Rattle.cdcl_solver.specs.Searches.{GoesOn, AreShortTrue}
 use Rattle.cdcl_solver.proofs.search.Search.start.Given as goal
 

@@ -1,7 +1,7 @@
 use Rattle.std.proofs.Common.{◌≡◌, refl, rules, subst, to_z, of_z, w32}
 use Rattle.std.specs.Prelude.{Contains}
 use Rattle.cdcl_solver.specs.Searches.{taken}
-use Rattle.cdcl_solver.proofs.States.{last_justified, last_conflict}
+use Rattle.cdcl_solver.proofs.States.{last_conflict}
 use Rattle.cdcl_solver.proofs.search.Search.take_up.Goals as goal
 
 pub returns-then-is_false-clause-found : goal.returns-then-is_false-clause-found

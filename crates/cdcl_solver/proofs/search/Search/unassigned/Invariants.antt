@@ -1,5 +1,5 @@
-use Rattle.std.proofs.Common.{◌≡◌, ◌<◌, ◌≤◌, ◌⊎◌, ℕ}
-use Rattle.std.specs.Prelude.{ℤ, pos, neg_ℤ, Contains}
+use Rattle.std.proofs.Common.{◌<◌, ◌≤◌, ◌⊎◌, ℕ}
+use Rattle.std.specs.Prelude.{pos, neg_ℤ, Contains}
 use Rattle.cdcl_solver.specs.Searches.{taken}
 use Rattle.cdcl_solver.proofs.search.Search.unassigned.Given as goal
 

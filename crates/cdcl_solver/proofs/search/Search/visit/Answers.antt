@@ -1,4 +1,4 @@
-use Rattle.std.proofs.Common.{rules, ◌≡◌, ◌∙◌, ◌<◌, ◌++◌, ◌∷◌, [], ℕ, List, sym, ap, subst, refl, length, get_or, arith, pos, to_z, of_z, w32, Option, true, false}
+use Rattle.std.proofs.Common.{rules, ◌≡◌, ◌∙◌, List, sym, ap, subst, refl, get_or, pos, to_z, of_z, w32, true, false}
 use Rattle.std.specs.Prelude.{ℤ, Contains, neg_ℤ, IfOk, OnOk}
 use Rattle.std.proofs.lemmas.List.Elements.{All-contains}
 use Rattle.rup_checker.specs.Formulas.{IsLiteral}
@@ -14,7 +14,7 @@ is_true-requires c =
     let state = subst IsSearch c.self.view_is c.self.invariant.search in
     let own : to_z w32 (of_z w32 c.args.literal) ≡ c.args.literal = search rules in
     let ws : c.of.result.now ≡ listed c.args.self.now.lists c.args.literal =
-        subst (λ (s : Searched). c.of.result.now ≡ listed s.lists c.args.literal) c.self.view_is (c.of.ensures ∙ ap (λ (m : ℤ). listed c.self.inside.watches m) own) in
+    subst (λ (s : Searched). c.of.result.now ≡ listed s.lists c.args.literal) c.self.view_is (c.of.ensures ∙ ap (λ (m : ℤ). listed c.self.inside.watches m) own) in
     let is : get_or c.of.result.now c.args.at (record { number = 0; other = pos 0; binary = false }) ≡ get_or (listed c.args.self.now.lists c.args.literal) c.args.at (record { number = 0; other = pos 0; binary = false }) = ap (λ (vs : List Watch). get_or vs c.args.at (record { number = 0; other = pos 0; binary = false })) ws in
     let read : to_z w32 (of_z w32 (get_or c.of.result.now c.args.at (record { number = 0; other = pos 0; binary = false })).other) ≡ (get_or c.of.result.now c.args.at (record { number = 0; other = pos 0; binary = false })).other = search rules in
     let same = read ∙ ap (λ (w : Watch). w.other) is in
@@ -25,7 +25,7 @@ returns-then-is_true-clause-found c =
     let state = subst IsSearch c.self.view_is c.self.invariant.search in
     let own : to_z w32 (of_z w32 c.args.literal) ≡ c.args.literal = search rules in
     let ws : c.of.result.now ≡ listed c.args.self.now.lists c.args.literal =
-        subst (λ (s : Searched). c.of.result.now ≡ listed s.lists c.args.literal) c.self.view_is (c.of.ensures ∙ ap (λ (m : ℤ). listed c.self.inside.watches m) own) in
+    subst (λ (s : Searched). c.of.result.now ≡ listed s.lists c.args.literal) c.self.view_is (c.of.ensures ∙ ap (λ (m : ℤ). listed c.self.inside.watches m) own) in
     let is : get_or c.of.result.now c.args.at (record { number = 0; other = pos 0; binary = false }) ≡ get_or (listed c.args.self.now.lists c.args.literal) c.args.at (record { number = 0; other = pos 0; binary = false }) = ap (λ (vs : List Watch). get_or vs c.args.at (record { number = 0; other = pos 0; binary = false })) ws in
     let read : to_z w32 (of_z w32 (get_or c.of.result.now c.args.at (record { number = 0; other = pos 0; binary = false })).other) ≡ (get_or c.of.result.now c.args.at (record { number = 0; other = pos 0; binary = false })).other = search rules in
     let same = read ∙ ap (λ (w : Watch). w.other) is in
@@ -36,7 +36,7 @@ take_up-requires-clause-in_range c =
     let state = subst IsSearch c.self.view_is c.self.invariant.search in
     let own : to_z w32 (of_z w32 c.args.literal) ≡ c.args.literal = search rules in
     let ws : c.of.result.now ≡ listed c.args.self.now.lists c.args.literal =
-        subst (λ (s : Searched). c.of.result.now ≡ listed s.lists c.args.literal) c.self.view_is (c.of.ensures ∙ ap (λ (m : ℤ). listed c.self.inside.watches m) own) in
+    subst (λ (s : Searched). c.of.result.now ≡ listed s.lists c.args.literal) c.self.view_is (c.of.ensures ∙ ap (λ (m : ℤ). listed c.self.inside.watches m) own) in
     let is : get_or c.of.result.now c.args.at (record { number = 0; other = pos 0; binary = false }) ≡ get_or (listed c.args.self.now.lists c.args.literal) c.args.at (record { number = 0; other = pos 0; binary = false }) = ap (λ (vs : List Watch). get_or vs c.args.at (record { number = 0; other = pos 0; binary = false })) ws in
     let read : to_z w32 (of_z w32 (get_or c.of.result.now c.args.at (record { number = 0; other = pos 0; binary = false })).other) ≡ (get_or c.of.result.now c.args.at (record { number = 0; other = pos 0; binary = false })).other = search rules in
     let same = read ∙ ap (λ (w : Watch). w.other) is in
@@ -47,7 +47,7 @@ take_up-requires-clause-last c =
     let state = subst IsSearch c.self.view_is c.self.invariant.search in
     let own : to_z w32 (of_z w32 c.args.literal) ≡ c.args.literal = search rules in
     let ws : c.of.result.now ≡ listed c.args.self.now.lists c.args.literal =
-        subst (λ (s : Searched). c.of.result.now ≡ listed s.lists c.args.literal) c.self.view_is (c.of.ensures ∙ ap (λ (m : ℤ). listed c.self.inside.watches m) own) in
+    subst (λ (s : Searched). c.of.result.now ≡ listed s.lists c.args.literal) c.self.view_is (c.of.ensures ∙ ap (λ (m : ℤ). listed c.self.inside.watches m) own) in
     let is : get_or c.of.result.now c.args.at (record { number = 0; other = pos 0; binary = false }) ≡ get_or (listed c.args.self.now.lists c.args.literal) c.args.at (record { number = 0; other = pos 0; binary = false }) = ap (λ (vs : List Watch). get_or vs c.args.at (record { number = 0; other = pos 0; binary = false })) ws in
     let read : to_z w32 (of_z w32 (get_or c.of.result.now c.args.at (record { number = 0; other = pos 0; binary = false })).other) ≡ (get_or c.of.result.now c.args.at (record { number = 0; other = pos 0; binary = false })).other = search rules in
     let same = read ∙ ap (λ (w : Watch). w.other) is in
@@ -58,7 +58,7 @@ returns-then-watch-clause-visited c =
     let state = subst IsSearch c.self.view_is c.self.invariant.search in
     let own : to_z w32 (of_z w32 c.args.literal) ≡ c.args.literal = search rules in
     let ws : c.of.result.now ≡ listed c.args.self.now.lists c.args.literal =
-        subst (λ (s : Searched). c.of.result.now ≡ listed s.lists c.args.literal) c.self.view_is (c.of.ensures ∙ ap (λ (m : ℤ). listed c.self.inside.watches m) own) in
+    subst (λ (s : Searched). c.of.result.now ≡ listed s.lists c.args.literal) c.self.view_is (c.of.ensures ∙ ap (λ (m : ℤ). listed c.self.inside.watches m) own) in
     let is : get_or c.of.result.now c.args.at (record { number = 0; other = pos 0; binary = false }) ≡ get_or (listed c.args.self.now.lists c.args.literal) c.args.at (record { number = 0; other = pos 0; binary = false }) = ap (λ (vs : List Watch). get_or vs c.args.at (record { number = 0; other = pos 0; binary = false })) ws in
     let read : to_z w32 (of_z w32 (get_or c.of.result.now c.args.at (record { number = 0; other = pos 0; binary = false })).other) ≡ (get_or c.of.result.now c.args.at (record { number = 0; other = pos 0; binary = false })).other = search rules in
     let same = read ∙ ap (λ (w : Watch). w.other) is in
@@ -69,7 +69,7 @@ returns-then-watch-clause-found c =
     let state = subst IsSearch c.self.view_is c.self.invariant.search in
     let own : to_z w32 (of_z w32 c.args.literal) ≡ c.args.literal = search rules in
     let ws : c.of.result.now ≡ listed c.args.self.now.lists c.args.literal =
-        subst (λ (s : Searched). c.of.result.now ≡ listed s.lists c.args.literal) c.self.view_is (c.of.ensures ∙ ap (λ (m : ℤ). listed c.self.inside.watches m) own) in
+    subst (λ (s : Searched). c.of.result.now ≡ listed s.lists c.args.literal) c.self.view_is (c.of.ensures ∙ ap (λ (m : ℤ). listed c.self.inside.watches m) own) in
     let is : get_or c.of.result.now c.args.at (record { number = 0; other = pos 0; binary = false }) ≡ get_or (listed c.args.self.now.lists c.args.literal) c.args.at (record { number = 0; other = pos 0; binary = false }) = ap (λ (vs : List Watch). get_or vs c.args.at (record { number = 0; other = pos 0; binary = false })) ws in
     let read : to_z w32 (of_z w32 (get_or c.of.result.now c.args.at (record { number = 0; other = pos 0; binary = false })).other) ≡ (get_or c.of.result.now c.args.at (record { number = 0; other = pos 0; binary = false })).other = search rules in
     let same = read ∙ ap (λ (w : Watch). w.other) is in
@@ -80,7 +80,7 @@ visit_clause-requires-clause-number c =
     let state = subst IsSearch c.self.view_is c.self.invariant.search in
     let own : to_z w32 (of_z w32 c.args.literal) ≡ c.args.literal = search rules in
     let ws : c.of.result.now ≡ listed c.args.self.now.lists c.args.literal =
-        subst (λ (s : Searched). c.of.result.now ≡ listed s.lists c.args.literal) c.self.view_is (c.of.ensures ∙ ap (λ (m : ℤ). listed c.self.inside.watches m) own) in
+    subst (λ (s : Searched). c.of.result.now ≡ listed s.lists c.args.literal) c.self.view_is (c.of.ensures ∙ ap (λ (m : ℤ). listed c.self.inside.watches m) own) in
     let is : get_or c.of.result.now c.args.at (record { number = 0; other = pos 0; binary = false }) ≡ get_or (listed c.args.self.now.lists c.args.literal) c.args.at (record { number = 0; other = pos 0; binary = false }) = ap (λ (vs : List Watch). get_or vs c.args.at (record { number = 0; other = pos 0; binary = false })) ws in
     ap (λ (m : ℤ). number_at c.args.self.now m c.args.at) own ∙ ap (λ (w : Watch). w.number) (sym is)
 
@@ -89,7 +89,7 @@ returns-clause-visited c =
     let state = subst IsSearch c.self.view_is c.self.invariant.search in
     let own : to_z w32 (of_z w32 c.args.literal) ≡ c.args.literal = search rules in
     let ws : c.of.result.now ≡ listed c.args.self.now.lists c.args.literal =
-        subst (λ (s : Searched). c.of.result.now ≡ listed s.lists c.args.literal) c.self.view_is (c.of.ensures ∙ ap (λ (m : ℤ). listed c.self.inside.watches m) own) in
+    subst (λ (s : Searched). c.of.result.now ≡ listed s.lists c.args.literal) c.self.view_is (c.of.ensures ∙ ap (λ (m : ℤ). listed c.self.inside.watches m) own) in
     let is : get_or c.of.result.now c.args.at (record { number = 0; other = pos 0; binary = false }) ≡ get_or (listed c.args.self.now.lists c.args.literal) c.args.at (record { number = 0; other = pos 0; binary = false }) = ap (λ (vs : List Watch). get_or vs c.args.at (record { number = 0; other = pos 0; binary = false })) ws in
     subst (λ (m : ℤ). OnOk c.visit_clause.result (IsVisited c.args.self.now c.visit_clause.new.self m c.args.at (number_at c.args.self.now c.args.literal c.args.at))) own
     (subst (λ (w : Watch). OnOk c.visit_clause.result (IsVisited c.args.self.now c.visit_clause.new.self (to_z w32 (of_z w32 c.args.literal)) c.args.at w.number)) is c.visit_clause.ensures.visited)
@@ -99,7 +99,7 @@ returns-clause-found c =
     let state = subst IsSearch c.self.view_is c.self.invariant.search in
     let own : to_z w32 (of_z w32 c.args.literal) ≡ c.args.literal = search rules in
     let ws : c.of.result.now ≡ listed c.args.self.now.lists c.args.literal =
-        subst (λ (s : Searched). c.of.result.now ≡ listed s.lists c.args.literal) c.self.view_is (c.of.ensures ∙ ap (λ (m : ℤ). listed c.self.inside.watches m) own) in
+    subst (λ (s : Searched). c.of.result.now ≡ listed s.lists c.args.literal) c.self.view_is (c.of.ensures ∙ ap (λ (m : ℤ). listed c.self.inside.watches m) own) in
     let is : get_or c.of.result.now c.args.at (record { number = 0; other = pos 0; binary = false }) ≡ get_or (listed c.args.self.now.lists c.args.literal) c.args.at (record { number = 0; other = pos 0; binary = false }) = ap (λ (vs : List Watch). get_or vs c.args.at (record { number = 0; other = pos 0; binary = false })) ws in
     subst (λ (m : ℤ). IfOk c.visit_clause.result (IsFound c.visit_clause.new.self m (number_at c.args.self.now c.args.literal c.args.at))) own
     (subst (λ (w : Watch). IfOk c.visit_clause.result (IsFound c.visit_clause.new.self (to_z w32 (of_z w32 c.args.literal)) w.number)) is c.visit_clause.ensures.found)

@@ -1,12 +1,12 @@
-use Rattle.std.proofs.Common.{rules, ◌≡◌, ◌∙◌, ◌-◌, ◌<◌, ◌≤◌, ◌++◌, ◌∷◌, [], ℕ, List, sym, ap, subst, refl, length, get_or, arith, pos, to_z, of_z, w32, Option}
-use Rattle.std.specs.Prelude.{ℤ, Contains, All, slice_get, Some, None, neg_ℤ, IfOk}
+use Rattle.std.proofs.Common.{rules, ◌≡◌, ◌-◌, [], List, sym, subst, refl, to_z, of_z, w32}
+use Rattle.std.specs.Prelude.{ℤ, Contains, slice_get, Some, neg_ℤ, IfOk}
 use Rattle.std.proofs.lemmas.List.Elements.{All-contains}
 use Rattle.rup_checker.specs.Formulas.{IsLiteral}
 use Rattle.rup_checker.specs.Stores.{clause_at}
 use Rattle.cdcl_solver.specs.Watches.{IsWatched}
-use Rattle.cdcl_solver.specs.Searches.{Searched, taken, IsSearch, IsLast, IsRewatch, IsTakenUp, IsVisited, IsFound, IsRewatched}
+use Rattle.cdcl_solver.specs.Searches.{Searched, taken, IsSearch, IsLast, IsRewatch, IsTakenUp, IsRewatched}
 use Rattle.cdcl_solver.proofs.States.{at_get}
-use Rattle.cdcl_solver.proofs.Visiting.{watching_of, says, c_range, true_found, taken_up, other_in, clause_last, rewatch_asked, rewatched_found, on_visited, on_found}
+use Rattle.cdcl_solver.proofs.Visiting.{watching_of, says, c_range, true_found, other_in, clause_last, rewatch_asked, rewatched_found, on_visited, on_found}
 use Rattle.cdcl_solver.proofs.search.Search.visit_clause.Goals as goal
 
 pub watching-mine-requires : goal.watching-mine-requires
@@ -88,7 +88,7 @@ returns-in_ok-rewatch-in-Some-clause-visited c =
     let mine = watching_of c.args.self.now.clauses c.args.number c.clause.result.now c.args.literal (to_z w32 (of_z w32 c.args.literal)) c.watching-mine.result.0 at own c.watching-mine.ensures.literal in
     let other = watching_of c.args.self.now.clauses c.args.number c.clause.result.now c.watching-mine.result.1 c.watching-mine.result.1 (1 - c.watching-mine.result.0) at refl c.watching-mine.ensures.other in
     let done = subst (λ (o : ℤ). IsRewatched c.args.self.now c.rewatch.new.self c.args.literal c.args.at (record { number = c.args.number; mine = c.watching-mine.result.0; other = o; place = c.in-Some.place })) read
-        (subst (λ (m : ℤ). IsRewatched c.args.self.now c.rewatch.new.self m c.args.at (record { number = c.args.number; mine = c.watching-mine.result.0; other = to_z w32 (of_z w32 c.watching-mine.result.1); place = c.in-Some.place })) own c.in_ok-rewatch-in-Some.ensures.ok) in
+    (subst (λ (m : ℤ). IsRewatched c.args.self.now c.rewatch.new.self m c.args.at (record { number = c.args.number; mine = c.watching-mine.result.0; other = to_z w32 (of_z w32 c.watching-mine.result.1); place = c.in-Some.place })) own c.in_ok-rewatch-in-Some.ensures.ok) in
     (rewatched_found c.args.self.now c.args.literal c.args.at c.args.number state c.requires.in_range c.requires.within c.requires.number c.requires.falsified c.watching-mine.result.0 c.watching-mine.result.1 c.watching-mine.ensures.mine mine other c.rewatch.new.self c.in-Some.place c.in-Some.ensures.found.0 c.in-Some.ensures.found.1 c.in-Some.ensures.found.2 done).0
 
 pub returns-in_ok-rewatch-in-Some-clause-found : goal.returns-in_ok-rewatch-in-Some-clause-found
@@ -101,7 +101,7 @@ returns-in_ok-rewatch-in-Some-clause-found c =
     let mine = watching_of c.args.self.now.clauses c.args.number c.clause.result.now c.args.literal (to_z w32 (of_z w32 c.args.literal)) c.watching-mine.result.0 at own c.watching-mine.ensures.literal in
     let other = watching_of c.args.self.now.clauses c.args.number c.clause.result.now c.watching-mine.result.1 c.watching-mine.result.1 (1 - c.watching-mine.result.0) at refl c.watching-mine.ensures.other in
     let done = subst (λ (o : ℤ). IsRewatched c.args.self.now c.rewatch.new.self c.args.literal c.args.at (record { number = c.args.number; mine = c.watching-mine.result.0; other = o; place = c.in-Some.place })) read
-        (subst (λ (m : ℤ). IsRewatched c.args.self.now c.rewatch.new.self m c.args.at (record { number = c.args.number; mine = c.watching-mine.result.0; other = to_z w32 (of_z w32 c.watching-mine.result.1); place = c.in-Some.place })) own c.in_ok-rewatch-in-Some.ensures.ok) in
+    (subst (λ (m : ℤ). IsRewatched c.args.self.now c.rewatch.new.self m c.args.at (record { number = c.args.number; mine = c.watching-mine.result.0; other = to_z w32 (of_z w32 c.watching-mine.result.1); place = c.in-Some.place })) own c.in_ok-rewatch-in-Some.ensures.ok) in
     (rewatched_found c.args.self.now c.args.literal c.args.at c.args.number state c.requires.in_range c.requires.within c.requires.number c.requires.falsified c.watching-mine.result.0 c.watching-mine.result.1 c.watching-mine.ensures.mine mine other c.rewatch.new.self c.in-Some.place c.in-Some.ensures.found.0 c.in-Some.ensures.found.1 c.in-Some.ensures.found.2 done).1
 
 pub returns-in-None-clause-visited : goal.returns-in-None-clause-visited

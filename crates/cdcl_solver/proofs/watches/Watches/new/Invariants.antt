@@ -1,4 +1,4 @@
-use Rattle.std.proofs.Common.{◌≡◌, [], length, All, List, ℕ}
+use Rattle.std.proofs.Common.{◌≡◌, [], length, All, List}
 use Rattle.cdcl_solver.specs.declared.watches.Watch.{Watch}
 use Rattle.cdcl_solver.proofs.watches.Watches.new.Given as goal
 
