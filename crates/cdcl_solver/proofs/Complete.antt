@@ -1,14 +1,9 @@
 -- What follows where unit propagation is complete.
-use Rattle.std.proofs.Common.{◌<◌, ◌∷◌, [], inl, inr, ℕ, zero, suc, List, sym, subst, length, arith}
+use Rattle.std.proofs.Common.{◌∷◌, [], inl, inr, ℕ, zero, suc, List, sym, subst, arith}
 use Rattle.std.specs.Prelude.{ℤ, neg_ℤ, All, Contains, IsSomeAnd, slice_get}
-use Rattle.std.specs.List.{cons_option}
 use Rattle.std.proofs.lemmas.List.Elements.{All-contains, All-head, All-tail}
-use Rattle.rup_checker.specs.Steps.{IsAllFalse, IsUnit, Propagates}
+use Rattle.rup_checker.specs.Steps.{IsAllFalse, IsUnit, Propagates, Refutes}
 use Rattle.rup_checker.specs.Logs.{IsQuiet, IsComplete, IsOpen}
-use Rattle.cdcl_solver.specs.declared.trail.Assigned.{Assigned}
-use Rattle.cdcl_solver.specs.declared.trail.Reason.{Reason}
-use Rattle.cdcl_solver.specs.declared.trail.Reason.TheVariants as reason
-use Rattle.cdcl_solver.specs.Trails.{IsReason, IsTrail, negated, denied}
 use Rattle.cdcl_solver.proofs.Members.{decide_in, all_from_in, IsWithin, within_added}
 
 -- what holds of all elements holds of the one at a place, beside what holds there
@@ -37,20 +32,13 @@ reaches_within clauses taken current (number ∷ numbers) after complete within 
     (all_at (IsQuiet (Contains taken)) (λ c. IsUnit (Contains current) c p.0) clauses number (Contains taken (neg_ℤ p.0)) complete p.1 (λ c settled u. settled_unit taken current c p.0 within settled u))
     within) p.2
 
--- a clause list at which propagation can be complete is not refuted by propagation alone
-pub complete_open : (clauses : List (List ℤ)) (taken : List ℤ) → IsComplete clauses (Contains taken) → IsOpen clauses
-complete_open clauses taken complete numbers r =
-    let within = reaches_within clauses taken [] r.units r.after complete (λ m h. absurd (omega (arith, h.1))) r.propagated in
+-- hints that begin with false literals alone reach no false clause
+pub complete_unrefuted : (clauses : List (List ℤ)) (taken clause : List ℤ) (numbers : List ℕ) → IsComplete clauses (Contains taken) → IsWithin clause taken → Refutes clauses clause numbers → ⊥
+complete_unrefuted clauses taken clause numbers complete inside r =
+    let within = reaches_within clauses taken clause r.units r.after complete inside r.propagated in
     all_at (IsQuiet (Contains taken)) (IsAllFalse (Contains r.after)) clauses r.last ⊥ complete r.conflict
     (λ c settled false'. settled.0 (all_from_in (Contains taken) c (λ m in_c. within m (All-contains (Contains r.after) c m false' in_c))))
 
-open_one : (clauses : List (List ℤ)) (taken ms : List ℤ) (l : ℤ) (r : Reason) → IsReason clauses taken l r → (0 < length ms → IsOpen clauses)
-    → 0 < length (cons_option (negated l r) ms) → IsOpen clauses
-open_one clauses taken ms l reason.Decision why later some = complete_open clauses taken why
-open_one clauses taken ms l (reason.Clause number) why later some = later some
-
--- where a decision stands on the trail, propagation alone does not refute the clauses
-pub open_at_decision : (n : ℕ) (clauses : List (List ℤ)) (taken : List ℤ) (trail : List Assigned) → IsTrail n clauses taken trail → 0 < length (denied trail) → IsOpen clauses
-open_at_decision n clauses taken [] t some = absurd (omega (arith, some))
-open_at_decision n clauses taken (a ∷ later) t some =
-    open_one clauses taken (denied later) a.literal a.reason t.0.reason (open_at_decision n clauses (neg_ℤ a.literal ∷ taken) later t.1) some
+-- a clause list at which propagation can be complete is not refuted by propagation alone
+pub complete_open : (clauses : List (List ℤ)) (taken : List ℤ) → IsComplete clauses (Contains taken) → IsOpen clauses
+complete_open clauses taken complete numbers r = complete_unrefuted clauses taken [] numbers complete (λ m h. absurd (omega (arith, h.1))) r

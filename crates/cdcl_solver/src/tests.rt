@@ -1,66 +1,115 @@
-//! Formulas with their answers, and each log given to the checker.
+//! Formulas with their answers, and each log given to the checker. A formula is written with a 0 after each clause.
 
-use crate::{Answer, MAX_BUDGET, solve};
+use crate::{Answer, MAX_BUDGET, Search, solve};
 use rup_checker::{Formula, Log, busy, check};
 use std::alloc::Global;
 use std::test::Fail;
 
+/// Every pair of literals of two variables.
+const PAIRS: &str = "1 2 0  1 -2 0  -1 2 0  -1 -2 0";
+
 /// Four pigeons in three holes: the variable 3 * (i - 1) + h says that pigeon i sits in hole h.
-const PIGEONS: [&[i32]; 22] = [
-    &[1, 2, 3],
-    &[4, 5, 6],
-    &[7, 8, 9],
-    &[10, 11, 12],
-    &[-1, -4],
-    &[-1, -7],
-    &[-1, -10],
-    &[-4, -7],
-    &[-4, -10],
-    &[-7, -10],
-    &[-2, -5],
-    &[-2, -8],
-    &[-2, -11],
-    &[-5, -8],
-    &[-5, -11],
-    &[-8, -11],
-    &[-3, -6],
-    &[-3, -9],
-    &[-3, -12],
-    &[-6, -9],
-    &[-6, -12],
-    &[-9, -12],
+const PIGEONS: &str = "1 2 3 0  4 5 6 0  7 8 9 0  10 11 12 0  \
+    -1 -4 0  -1 -7 0  -1 -10 0  -4 -7 0  -4 -10 0  -7 -10 0  \
+    -2 -5 0  -2 -8 0  -2 -11 0  -5 -8 0  -5 -11 0  -8 -11 0  \
+    -3 -6 0  -3 -9 0  -3 -12 0  -6 -9 0  -6 -12 0  -9 -12 0";
+
+/// Formulas with their variables, and whether some assignment satisfies them.
+const FORMULAS: &[(u32, &str, bool)] = &[
+    (0, "", true),
+    (2, "", true),
+    (4, "1 0  4 2 0  4 -3 0  -4 -2 3 0  1 0  -4 0", true),
+    (4, "-1 2 0  -2 3 0  1 0  -3 4 0", true),
+    (2, "1 1 0  -1 2 -1 0  2 -2 0", true),
+    (3, "1 -1 0  2 2 3 0  -3 -3 0  -2 3 -2 1 0", true),
+    (0, "0", false),
+    (1, "1 0  -1 0", false),
+    (2, "1 1 0  -1 -1 -1 0", false),
+    (4, "-1 2 0  -2 3 0  1 0  -3 4 0  -4 -1 0", false),
+    (2, PAIRS, false),
+    (12, PIGEONS, false),
 ];
 
-/// The formula of these clauses, where they are in range.
-fn formula(alloc: Global, variables: u32, clauses: &[&[i32]]) -> Result<Formula, Fail> {
+/// Clauses over three variables, whose subsets are searched.
+const CLAUSES: &[&str] = &[
+    "1 2 3 0",
+    "-1 2 0",
+    "1 -2 0",
+    "-2 -3 0",
+    "2 -3 0",
+    "3 -1 0",
+    "-1 -2 -3 0",
+    "3 0",
+];
+
+/// Appends the clauses of a text, where they are in range.
+fn add(alloc: Global, formula: &mut Formula, text: &str) -> Result<(), Fail> {
+    let mut clause = Vec::new(alloc);
+    for word in text.split_whitespace() {
+        let literal: i32 = word.parse()?;
+        if literal != 0 {
+            clause.push(literal)?;
+            continue;
+        }
+        if !formula.allows(&clause) {
+            return Err(Fail::new("a literal out of range"));
+        }
+        formula.push(&clause)?;
+        clause.clear();
+    }
+    Ok(())
+}
+
+fn formula(alloc: Global, variables: u32, text: &str) -> Result<Formula, Fail> {
     let Some(mut formula) = Formula::new(alloc, variables) else {
         return Err(Fail::new("too many variables"));
     };
-    for &clause in clauses {
-        if !formula.allows(clause) {
-            return Err(Fail::new("a literal out of range"));
-        }
-        formula.push(clause)?;
-    }
+    add(alloc, &mut formula, text)?;
     Ok(formula)
 }
 
-/// What a search answers, in short: the logs are those that the checker accepts, up to the empty clause.
-#[derive(Debug, PartialEq, Eq, Drop)]
+/// What a search answers, in short: models and logs are looked at.
+#[derive(Clone, Copy, Debug, PartialEq, Eq)]
 enum Found {
-    Satisfied(Vec<bool>),
+    Satisfied,
     Refuted,
     Spent(usize),
 }
 
 fn search(alloc: Global, formula: &Formula, budget: u32) -> Result<Found, Fail> {
-    if budget == 0 || budget > MAX_BUDGET || formula.len() >= 1 << 31 {
+    if budget == 0 || budget > 1_000_000 || formula.len() >= 1 << 31 {
         return Err(Fail::new("no such search"));
     }
     match solve(alloc, formula, budget)? {
-        Answer::Sat(values) => Ok(Found::Satisfied(values)),
+        Answer::Sat(values) => satisfied(formula, &values),
         Answer::Unsat(log) => refuted(alloc, formula, &log),
         Answer::Spent(log) => spent(alloc, formula, &log),
+    }
+}
+
+/// Whether an assignment, the value of variable 1 first, satisfies a clause.
+fn satisfies(row: &[bool], clause: &[i32]) -> bool {
+    clause.iter().any(|literal| {
+        let place = (literal.unsigned_abs() as usize).wrapping_sub(1);
+        row.get(place) == Some(&(*literal > 0))
+    })
+}
+
+/// Whether there is a value for each variable, and they satisfy each clause.
+fn is_model(formula: &Formula, values: &[bool]) -> bool {
+    for number in 0..formula.len() {
+        if !satisfies(values, formula.clause(number)) {
+            return false;
+        }
+    }
+    values.len() == formula.variables() as usize
+}
+
+fn satisfied(formula: &Formula, values: &[bool]) -> Result<Found, Fail> {
+    if is_model(formula, values) {
+        Ok(Found::Satisfied)
+    } else {
+        Err(Fail::new("no model"))
     }
 }
 
@@ -79,119 +128,86 @@ fn spent(alloc: Global, formula: &Formula, log: &Log) -> Result<Found, Fail> {
     }
 }
 
-/// Whether these values are the answer for these clauses.
-fn is_answer(
-    alloc: Global,
-    variables: u32,
-    clauses: &[&[i32]],
-    expected: &[bool],
-) -> Result<bool, Fail> {
-    let formula = formula(alloc, variables, clauses)?;
-    match search(alloc, &formula, 10)? {
-        Found::Satisfied(values) => Ok(values.as_slice() == expected),
-        _ => Ok(false),
-    }
-}
-
 #[test]
-fn answers_an_assignment(rt: HostRuntime) -> Result<(), Fail> {
+fn answers_a_model_or_a_refutation(rt: HostRuntime) -> Result<(), Fail> {
     let alloc = rt.alloc();
-    assert!(rt; is_answer(alloc, 0, &[], &[])?);
-    assert!(rt; is_answer(alloc, 2, &[], &[false, false])?);
-    let given: [&[i32]; 6] = [&[1], &[4, 2], &[4, -3], &[-4, -2, 3], &[1], &[-4]];
-    assert!(rt; is_answer(alloc, 4, &given, &[true, true, false, false])?);
-    let chain: [&[i32]; 4] = [&[-1, 2], &[-2, 3], &[1], &[-3, 4]];
-    assert!(rt; is_answer(alloc, 4, &chain, &[true, true, true, true])?);
-    let pairs: [&[i32]; 3] = [&[1, 2], &[1, -2], &[-1, 2]];
-    assert!(rt; is_answer(alloc, 2, &pairs, &[true, true])?);
-    let repeated: [&[i32]; 3] = [&[1, 1], &[-1, 2, -1], &[2, -2]];
-    assert!(rt; is_answer(alloc, 2, &repeated, &[true, true])?);
-    Ok(())
-}
-
-#[test]
-fn refutes_what_no_assignment_satisfies(rt: HostRuntime) -> Result<(), Fail> {
-    let alloc = rt.alloc();
-    let table: [(u32, &[&[i32]]); 4] = [
-        (0, &[&[]]),
-        (1, &[&[1], &[-1]]),
-        (4, &[&[-1, 2], &[-2, 3], &[1], &[-3, 4], &[-4, -1]]),
-        (2, &[&[1, 2], &[1, -2], &[-1, 2], &[-1, -2]]),
-    ];
-    for (variables, clauses) in table {
-        let formula = formula(alloc, variables, clauses)?;
-        assert_eq!(rt; search(alloc, &formula, 1)?, Found::Refuted);
+    for &(variables, text, satisfiable) in FORMULAS {
+        let formula = formula(alloc, variables, text)?;
+        let expected = if satisfiable {
+            Found::Satisfied
+        } else {
+            Found::Refuted
+        };
+        assert_eq!(rt; search(alloc, &formula, MAX_BUDGET)?, expected);
     }
     Ok(())
 }
 
 #[test]
 fn spends_its_budget_on_pigeons(rt: HostRuntime) -> Result<(), Fail> {
-    let formula = formula(rt.alloc(), 12, &PIGEONS)?;
-    assert_eq!(rt; search(rt.alloc(), &formula, 1)?, Found::Spent(1));
-    assert_eq!(rt; search(rt.alloc(), &formula, 5)?, Found::Spent(5));
-    assert_eq!(rt; search(rt.alloc(), &formula, 100_000)?, Found::Refuted);
+    let alloc = rt.alloc();
+    let formula = formula(alloc, 12, PIGEONS)?;
+    assert_eq!(rt; search(alloc, &formula, 1)?, Found::Spent(1));
+    assert_eq!(rt; search(alloc, &formula, 2)?, Found::Spent(2));
     Ok(())
 }
-
-/// Whether an assignment, the value of variable 1 first, satisfies a clause.
-fn satisfies(row: &[bool], clause: &[i32]) -> bool {
-    clause.iter().any(|literal| {
-        let place = (literal.unsigned_abs() as usize).wrapping_sub(1);
-        row.get(place) == Some(&(*literal > 0))
-    })
-}
-
-/// Clauses over three variables, whose subsets are searched.
-const CLAUSES: [&[i32]; 8] = [
-    &[1, 2, 3],
-    &[-1, 2],
-    &[1, -2],
-    &[-2, -3],
-    &[2, -3],
-    &[3, -1],
-    &[-1, -2, -3],
-    &[3],
-];
-
-const ROWS: [[bool; 3]; 8] = [
-    [false, false, false],
-    [false, false, true],
-    [false, true, false],
-    [false, true, true],
-    [true, false, false],
-    [true, false, true],
-    [true, true, false],
-    [true, true, true],
-];
 
 #[test]
 fn agrees_with_a_truth_table(rt: HostRuntime) -> Result<(), Fail> {
     let alloc = rt.alloc();
     for subset in 0u32..256 {
-        let mut clauses: Vec<&[i32]> = Vec::new(alloc);
+        let mut formula = formula(alloc, 3, "")?;
         let mut left = subset;
-        for clause in CLAUSES {
+        for text in CLAUSES {
             if left % 2 == 1 {
-                clauses.push(clause)?;
+                add(alloc, &mut formula, text)?;
             }
             left /= 2;
         }
-        let formula = formula(alloc, 3, clauses.as_slice())?;
-        let satisfiable = ROWS
-            .iter()
-            .any(|row| clauses.iter().all(|clause| satisfies(row, clause)));
-        match search(alloc, &formula, 28)? {
-            Found::Satisfied(values) => {
-                assert!(rt;
-                    clauses
-                        .iter()
-                        .all(|clause| satisfies(values.as_slice(), clause))
-                );
-            }
-            Found::Refuted => assert!(rt; !satisfiable),
-            Found::Spent(_) => return Err(Fail::new("the budget is greater than 27")),
+        let mut satisfiable = false;
+        for row in 0u32..8 {
+            let values = [row % 2 == 1, row / 2 % 2 == 1, row / 4 == 1];
+            satisfiable |= is_model(&formula, &values);
         }
+        let expected = if satisfiable {
+            Found::Satisfied
+        } else {
+            Found::Refuted
+        };
+        assert_eq!(rt; search(alloc, &formula, 28)?, expected);
     }
+    Ok(())
+}
+
+/// The conflicts of a search before any decision, and after the first one.
+fn conflicts(
+    alloc: Global,
+    variables: u32,
+    text: &str,
+) -> Result<(Option<u32>, Option<u32>), Fail> {
+    let formula = formula(alloc, variables, text)?;
+    if formula.len() >= 1 << 31 {
+        return Err(Fail::new("too many clauses"));
+    }
+    let mut search = Search::new(alloc, &formula)?;
+    if let Some(conflict) = search.propagate()? {
+        return Ok((Some(conflict), None));
+    }
+    let Some(literal) = search.unassigned() else {
+        return Ok((None, None));
+    };
+    search.assume(literal)?;
+    Ok((None, search.propagate()?))
+}
+
+#[test]
+fn propagates_to_a_false_clause(rt: HostRuntime) -> Result<(), Fail> {
+    let alloc = rt.alloc();
+    let (before, after) = conflicts(alloc, 2, PAIRS)?;
+    assert!(rt; before.is_none() && matches!(&after, Some(0 | 1)));
+    let (before, _) = conflicts(alloc, 1, "1 0  -1 0")?;
+    assert!(rt; matches!(&before, Some(0 | 1)));
+    let (before, after) = conflicts(alloc, 3, "1 2 0  -2 3 0")?;
+    assert!(rt; before.is_none() && after.is_none());
     Ok(())
 }

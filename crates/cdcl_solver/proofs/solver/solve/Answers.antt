@@ -1,89 +1,112 @@
-use Rattle.std.proofs.Common.{◌≡◌, ◌+◌, ◌-◌, ◌*◌, ◌++◌, ◌∷◌, [], ℕ, List, refl, sym, ap, subst, ◌∙◌, length, length-append, Option, arith}
-use Rattle.std.specs.Prelude.{is_none}
-use Rattle.std.specs.Option.{IfSome, IfNone}
-use Rattle.std.proofs.lemmas.List.Sums.{count_by-le-length}
-use Rattle.rup_checker.specs.declared.log.Step.{Step}
-use Rattle.rup_checker.specs.Logs.{known}
-use Rattle.cdcl_solver.specs.Values.{free}
-use Rattle.cdcl_solver.specs.Searches.{IsConflict, AreQuiet}
-use Rattle.cdcl_solver.proofs.States.{trail_in_range, explained, refuted, spent, learnt, modelled, decided, less_learnt, some_length}
+use Rattle.std.proofs.Common.{◌≡◌, ◌∙◌, ◌+◌, ◌<◌, ◌∷◌, [], ℕ, List, sym, ap, subst, refl, length, length-append, take, reverse, arith, Option, true, false}
+use Rattle.std.specs.Prelude.{ℤ, Contains}
+use Rattle.std.specs.Option.{IfNone}
+use Rattle.std.proofs.lemmas.List.{length_push}
+use Rattle.rup_checker.specs.Logs.{IsComplete}
+use Rattle.cdcl_solver.specs.Searches.{Searched, taken, IsSettled, IsAsserting, IsLearnt}
+use Rattle.cdcl_solver.proofs.Short.{trail_short}
+use Rattle.cdcl_solver.proofs.Solving.{solving_goes_on, solving_decides, solving_learns, is_refuted, is_spent, is_started, back_decided, back_settled, back_asserting, is_model}
 use Rattle.cdcl_solver.proofs.solver.solve.Goals as goal
 
-pub explain-requires : goal.explain-requires
-explain-requires c = λ k d low.
-    let search = c.in_ok-conflict.ensures.search in
-    let lit = trail_in_range c.args.formula.now.variables (known c.args.formula.now c.propagate.new.self.steps) [] c.propagate.new.self.trail search.justified k d low in
-    omega (arith, lit.known, search.fits.variables)
+some_length : {X : Type 0} (xs : List X) → ¬ (xs ≡ []) → 0 < length xs
+some_length [] h = absurd (h refl)
+some_length (x ∷ xs) h = omega arith
+
+false_true : false ≡ true → ⊥
+false_true e = cc
 
 pub returns-then-is_empty-clause-answer : goal.returns-then-is_empty-clause-answer
 returns-then-is_empty-clause-answer c =
-    let f = c.args.formula.now in
-    let s = c.propagate.new.self in
-    let search = c.in_ok-conflict.ensures.search in
-    let conflict = subst (λ (o : Option ℕ). IfSome o (IsConflict c.args.formula.now c.propagate.new.self)) c.in-Some.is c.in_ok-conflict.ensures.conflict in
-    refuted f s c.args.budget c.in_ok-step.step c.push.new.self search
-    (explained f s c.in-Some.conflict c.in_ok-step.step search conflict c.in_ok-step.ensures.clause c.in_ok-step.ensures.hints)
-    (c.if-is_empty.ensures.0 refl) (omega (arith, c.loop-search.invariant.few, ap length c.in_ok-conflict.ensures.steps)) c.in_ok-push.ensures.ok
+    let solving = solving_goes_on c.args.formula.now c.loop-steps.search c.propagate.new.self c.loop-steps.steps c.loop-steps.invariant.solving
+    c.in_ok-conflict.ensures.search c.in_ok-conflict.ensures.goes_on c.in_ok-conflict.ensures.started in
+    let ex = c.in_ok-explained.ensures in
+    let hints : c.in_ok-hints.hints ≡ reverse c.in_ok-explained.explained.hints = c.in_ok-hints.ensures ∙ ap (λ (ns : List ℕ). reverse ns) c.as_slice.ensures in
+    is_refuted c.args.formula.now c.propagate.new.self c.loop-steps.steps solving c.in_ok-explained.explained ex c.args.budget (record { clause = c.in_ok-explained.explained.clause; hints = c.in_ok-hints.hints }) c.push.new.self refl hints (c.if-is_empty.ensures.0 refl) c.loop-steps.invariant.few c.in_ok-push.ensures.ok
 
 pub returns-then-len-budget-clause-answer : goal.returns-then-len-budget-clause-answer
 returns-then-len-budget-clause-answer c =
-    spent c.args.formula.now c.propagate.new.self c.args.budget c.in_ok-conflict.ensures.search
-    (some_length _ (λ e. let h = c.if-is_empty.ensures.1 (c.in_ok-step.ensures.clause ∙ e) in cc))
-    (sym c.len.ensures ∙ c.if-len-budget.true)
+    let solving = solving_goes_on c.args.formula.now c.loop-steps.search c.propagate.new.self c.loop-steps.steps c.loop-steps.invariant.solving
+    c.in_ok-conflict.ensures.search c.in_ok-conflict.ensures.goes_on c.in_ok-conflict.ensures.started in
+    let ex = c.in_ok-explained.ensures in
+    let some = some_length c.in_ok-explained.explained.clause (λ e. false_true (c.if-is_empty.ensures.1 e)) in
+    is_spent c.args.formula.now c.propagate.new.self c.loop-steps.steps solving c.in_ok-explained.explained ex some c.args.budget (sym c.len.ensures ∙ c.if-len-budget.true)
 
 pub returns-then-len-budget-clause-decided : goal.returns-then-len-budget-clause-decided
-returns-then-len-budget-clause-decided c = λ low. let r = returns-then-len-budget-clause-answer c in omega (arith, low, r.few)
+returns-then-len-budget-clause-decided c =
+    λ low. let r = returns-then-len-budget-clause-answer c in omega (arith, low, r.few)
 
-pub undo-requires-clause-in_range : goal.undo-requires-clause-in_range
-undo-requires-clause-in_range c = λ k d low.
-    let search = c.in_ok-conflict.ensures.search in
-    let lit = trail_in_range c.args.formula.now.variables (known c.args.formula.now c.propagate.new.self.steps) [] c.propagate.new.self.trail search.justified k d low in
-    record { some = lit.some; known = omega (arith, lit.known, search.agrees.size) }
+pub backtrack-requires-clause-decided : goal.backtrack-requires-clause-decided
+backtrack-requires-clause-decided c =
+    let solving = solving_goes_on c.args.formula.now c.loop-steps.search c.propagate.new.self c.loop-steps.steps c.loop-steps.invariant.solving
+    c.in_ok-conflict.ensures.search c.in_ok-conflict.ensures.goes_on c.in_ok-conflict.ensures.started in
+    let ex = c.in_ok-explained.ensures in
+    let some = some_length c.in_ok-explained.explained.clause (λ e. false_true (c.if-is_empty.ensures.1 e)) in
+    back_decided c.args.formula.now c.propagate.new.self c.loop-steps.steps solving c.in_ok-explained.explained ex some
 
-pub loop-search-preserved-in_ok-push-2 : goal.loop-search-preserved-in_ok-push-2
-loop-search-preserved-in_ok-push-2 c =
-    let f = c.args.formula.now in
-    let s = c.propagate.new.self in
-    let search = c.in_ok-conflict.ensures.search in
-    let conflict = subst (λ (o : Option ℕ). IfSome o (IsConflict c.args.formula.now c.propagate.new.self)) c.in-Some.is c.in_ok-conflict.ensures.conflict in
-    let more : c.push-in-Some.new.self ≡ c.propagate.new.self.steps ++ c.in_ok-step.step ∷ [] = c.in_ok-push-2.ensures.ok ∙ ap (λ (ss : List Step). ss ++ c.in_ok-step.step ∷ []) c.undo.ensures.steps in
+pub backtrack-requires-clause-started : goal.backtrack-requires-clause-started
+backtrack-requires-clause-started c =
+    let solving = solving_goes_on c.args.formula.now c.loop-steps.search c.propagate.new.self c.loop-steps.steps c.loop-steps.invariant.solving
+    c.in_ok-conflict.ensures.search c.in_ok-conflict.ensures.goes_on c.in_ok-conflict.ensures.started in
+    let ex = c.in_ok-explained.ensures in
+    let some = some_length c.in_ok-explained.explained.clause (λ e. false_true (c.if-is_empty.ensures.1 e)) in
+    is_started c.args.formula.now c.propagate.new.self c.loop-steps.steps solving c.in_ok-explained.explained ex some
+
+pub learn-requires-clause-settled : goal.learn-requires-clause-settled
+learn-requires-clause-settled c =
+    let solving = solving_goes_on c.args.formula.now c.loop-steps.search c.propagate.new.self c.loop-steps.steps c.loop-steps.invariant.solving
+    c.in_ok-conflict.ensures.search c.in_ok-conflict.ensures.goes_on c.in_ok-conflict.ensures.started in
+    let ex = c.in_ok-explained.ensures in
+    let some = some_length c.in_ok-explained.explained.clause (λ e. false_true (c.if-is_empty.ensures.1 e)) in
+    subst IsSettled (sym c.backtrack.ensures.state) (back_settled c.args.formula.now c.propagate.new.self c.loop-steps.steps solving c.in_ok-explained.explained ex some)
+
+pub learn-requires-clause-asserting : goal.learn-requires-clause-asserting
+learn-requires-clause-asserting c =
+    let solving = solving_goes_on c.args.formula.now c.loop-steps.search c.propagate.new.self c.loop-steps.steps c.loop-steps.invariant.solving
+    c.in_ok-conflict.ensures.search c.in_ok-conflict.ensures.goes_on c.in_ok-conflict.ensures.started in
+    let ex = c.in_ok-explained.ensures in
+    let some = some_length c.in_ok-explained.explained.clause (λ e. false_true (c.if-is_empty.ensures.1 e)) in
+    subst (λ (s : Searched). IsAsserting s c.as_slice-in-Some.result.now) (sym c.backtrack.ensures.state)
+    (subst (λ (ls : List ℤ). IsAsserting (record c.propagate.new.self { trail = take c.in_ok-explained.explained.back c.propagate.new.self.trail; followed = c.in_ok-explained.explained.back }) ls) (sym c.as_slice-in-Some.ensures) (back_asserting c.args.formula.now c.propagate.new.self c.loop-steps.steps solving c.in_ok-explained.explained ex some))
+
+pub loop-steps-preserved-in-Some : goal.loop-steps-preserved-in-Some
+loop-steps-preserved-in-Some c =
+    let solving = solving_goes_on c.args.formula.now c.loop-steps.search c.propagate.new.self c.loop-steps.steps c.loop-steps.invariant.solving
+    c.in_ok-conflict.ensures.search c.in_ok-conflict.ensures.goes_on c.in_ok-conflict.ensures.started in
+    let ex = c.in_ok-explained.ensures in
+    let hints : c.in_ok-hints.hints ≡ reverse c.in_ok-explained.explained.hints = c.in_ok-hints.ensures ∙ ap (λ (ns : List ℕ). reverse ns) c.as_slice.ensures in
+    let some = some_length c.in_ok-explained.explained.clause (λ e. false_true (c.if-is_empty.ensures.1 e)) in
+    let learnt = subst (λ (s : Searched). IsLearnt s c.in_ok-search-2.search c.in_ok-explained.explained.clause) c.backtrack.ensures.state
+    (subst (λ (ls : List ℤ). IsLearnt c.backtrack.new.self c.in_ok-search-2.search ls) c.as_slice-in-Some.ensures c.in_ok-search-2.ensures.learnt) in
     record {
-      search = learnt f s (record { steps = c.push-in-Some.new.self; trail = c.undo.new.self.trail; values = c.undo.new.self.values }) c.in_ok-step.step search
-          (explained f s c.in-Some.conflict c.in_ok-step.step search conflict c.in_ok-step.ensures.clause c.in_ok-step.ensures.hints)
-          c.in_ok-step.ensures.clause c.undo.ensures.trail (c.undo.ensures.values f.variables (known f s.steps) search.justified search.agrees) more
-          (omega (arith, c.requires.clauses, c.requires.bound, c.loop-search.invariant.few, ap length c.in_ok-conflict.ensures.steps));
-      few = omega (arith, c.if-len-budget.false, c.len.ensures, c.loop-search.invariant.few, ap length c.in_ok-conflict.ensures.steps, ap length more, length-append s.steps (c.in_ok-step.step ∷ []));
+      solving = solving_learns c.args.formula.now c.propagate.new.self c.loop-steps.steps solving c.in_ok-explained.explained ex some c.in_ok-search-2.search (record { clause = c.in_ok-explained.explained.clause; hints = c.in_ok-hints.hints }) c.push-in-Some.new.self
+          c.in_ok-search-2.ensures.search learnt refl hints c.in_ok-push-2.ensures.ok;
+      few = omega (arith, c.if-len-budget.false, c.len.ensures, c.loop-steps.invariant.few, ap length c.in_ok-push-2.ensures.ok, length_push c.loop-steps.steps (record { clause = c.in_ok-explained.explained.clause; hints = c.in_ok-hints.hints }));
     }
 
-pub loop-search-smaller-in_ok-push-2 : goal.loop-search-smaller-in_ok-push-2
-loop-search-smaller-in_ok-push-2 c =
-    let s = c.propagate.new.self in
-    let next = loop-search-preserved-in_ok-push-2 c in
-    let more : c.push-in-Some.new.self ≡ c.propagate.new.self.steps ++ c.in_ok-step.step ∷ [] = c.in_ok-push-2.ensures.ok ∙ ap (λ (ss : List Step). ss ++ c.in_ok-step.step ∷ []) c.undo.ensures.steps in
-    less_learnt c.args.budget (length c.loop-search.search.steps) (length c.push-in-Some.new.self) c.args.formula.now.variables (free c.undo.new.self.values) (free c.loop-search.search.values)
-    (omega (arith, ap length c.in_ok-conflict.ensures.steps, ap length more, length-append s.steps (c.in_ok-step.step ∷ [])))
-    (omega (arith, c.if-len-budget.false, c.len.ensures, c.loop-search.invariant.few, ap length c.in_ok-conflict.ensures.steps))
-    (omega (arith, count_by-le-length is_none c.undo.new.self.values, next.search.agrees.size))
+pub loop-steps-smaller : goal.loop-steps-smaller
+loop-steps-smaller c =
+    let solving = solving_goes_on c.args.formula.now c.loop-steps.search c.propagate.new.self c.loop-steps.steps c.loop-steps.invariant.solving
+    c.in_ok-conflict.ensures.search c.in_ok-conflict.ensures.goes_on c.in_ok-conflict.ensures.started in
+    let is = c.in_ok-assume.ensures.ok in
+    let short = trail_short c.assume.new.self.variables c.assume.new.self.clauses c.assume.new.self.trail c.in_ok-assume.ensures.search.justified in
+    let count : length c.assume.new.self.trail ≡ length c.propagate.new.self.trail + 1 = ap (λ (s : Searched). length s.trail) is ∙ length_push c.propagate.new.self.trail _ in
+    let variables : c.assume.new.self.variables ≡ c.args.formula.now.variables = ap (λ (s : Searched). s.variables) is ∙ solving.variables in
+    omega (arith, short, count, variables, ap length c.in_ok-conflict.ensures.goes_on.trail, length-append c.loop-steps.search.trail c.in_ok-conflict.ensures.goes_on.more)
 
-pub loop-search-preserved : goal.loop-search-preserved
-loop-search-preserved c =
-    let quiet = subst (λ (o : Option ℕ). IfNone o (AreQuiet c.args.formula.now c.propagate.new.self (length (known c.args.formula.now c.propagate.new.self.steps)))) c.in_default.is c.in_ok-conflict.ensures.quiet in
+pub loop-steps-preserved : goal.loop-steps-preserved
+loop-steps-preserved c =
+    let solving = solving_goes_on c.args.formula.now c.loop-steps.search c.propagate.new.self c.loop-steps.steps c.loop-steps.invariant.solving
+    c.in_ok-conflict.ensures.search c.in_ok-conflict.ensures.goes_on c.in_ok-conflict.ensures.started in
+    let settled = subst (λ (o : Option ℕ). IfNone o (IsSettled c.propagate.new.self)) c.in_default.is c.in_ok-conflict.ensures.settled in
     record {
-      search = (decided c.args.formula.now c.propagate.new.self c.decide.new.self c.in-Some-unassigned.place c.in_ok-conflict.ensures.search quiet
-          (sym c.unassigned.ensures ∙ c.in-Some-unassigned.is) c.decide.ensures.steps c.in_ok-decide.ensures.trail c.in_ok-decide.ensures.values).0;
-      few = omega (arith, c.loop-search.invariant.few, ap length c.in_ok-conflict.ensures.steps, ap length c.decide.ensures.steps);
+      solving = solving_decides c.args.formula.now c.propagate.new.self c.assume.new.self c.loop-steps.steps _ solving c.in_ok-assume.ensures.search c.in_ok-assume.ensures.ok settled.started;
+      few = c.loop-steps.invariant.few;
     }
-
-pub loop-search-smaller : goal.loop-search-smaller
-loop-search-smaller c =
-    let quiet = subst (λ (o : Option ℕ). IfNone o (AreQuiet c.args.formula.now c.propagate.new.self (length (known c.args.formula.now c.propagate.new.self.steps)))) c.in_default.is c.in_ok-conflict.ensures.quiet in
-    let less = (decided c.args.formula.now c.propagate.new.self c.decide.new.self c.in-Some-unassigned.place c.in_ok-conflict.ensures.search quiet
-    (sym c.unassigned.ensures ∙ c.in-Some-unassigned.is) c.decide.ensures.steps c.in_ok-decide.ensures.trail c.in_ok-decide.ensures.values).1 in
-    let same : length c.decide.new.self.steps ≡ length c.loop-search.search.steps = ap length (c.decide.ensures.steps ∙ c.in_ok-conflict.ensures.steps) in
-    omega (arith, less, c.in_ok-conflict.ensures.free, ap (λ (k : ℕ). (c.args.budget - k) * (c.args.formula.now.variables + 1)) same)
 
 pub returns-in_default-unassigned-clause-answer : goal.returns-in_default-unassigned-clause-answer
 returns-in_default-unassigned-clause-answer c =
-    let quiet = subst (λ (o : Option ℕ). IfNone o (AreQuiet c.args.formula.now c.propagate.new.self (length (known c.args.formula.now c.propagate.new.self.steps)))) c.in_default.is c.in_ok-conflict.ensures.quiet in
-    modelled c.args.formula.now c.propagate.new.self c.in_ok-assignment.field-0.items c.in_ok-conflict.ensures.search quiet
-    (sym c.unassigned.ensures ∙ c.in_default-unassigned.is) c.in_ok-assignment.ensures
+    let solving = solving_goes_on c.args.formula.now c.loop-steps.search c.propagate.new.self c.loop-steps.steps c.loop-steps.invariant.solving
+    c.in_ok-conflict.ensures.search c.in_ok-conflict.ensures.goes_on c.in_ok-conflict.ensures.started in
+    let quiet = subst (λ (o : Option ℕ). IfNone o (IsComplete c.propagate.new.self.clauses (Contains (taken c.propagate.new.self)))) c.in_default.is c.in_ok-conflict.ensures.quiet in
+    is_model c.args.formula.now c.propagate.new.self c.loop-steps.steps c.in_ok-assignment.field-0.items solving quiet c.in_default-unassigned.ensures.none
+    c.in_ok-assignment.ensures.count c.in_ok-assignment.ensures.values

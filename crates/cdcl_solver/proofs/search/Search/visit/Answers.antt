@@ -1,44 +1,105 @@
-use Rattle.std.proofs.Common.{rules, ◌≡◌, ◌<◌, ◌++◌, ◌∷◌, [], List, ap, subst, ◌∙◌, ℤ, to_z, of_z, w32, arith, Some}
-use Rattle.std.specs.Prelude.{slice_get}
-use Rattle.rup_checker.specs.declared.log.Step.{Step}
-use Rattle.rup_checker.specs.Logs.{known}
-use Rattle.cdcl_solver.specs.declared.trail.Reason.TheVariants as reason
-use Rattle.cdcl_solver.specs.declared.values.Status.TheVariants as status
-use Rattle.cdcl_solver.specs.Values.{Values, IsStatus, free, with_value, sign}
-use Rattle.cdcl_solver.specs.Searches.{IsSearch}
-use Rattle.cdcl_solver.proofs.States.{assigned, unit_reason, visited}
+use Rattle.std.proofs.Common.{rules, ◌≡◌, ◌∙◌, List, sym, ap, subst, refl, get_or, pos, to_z, of_z, w32, true, false}
+use Rattle.std.specs.Prelude.{ℤ, Contains, neg_ℤ, IfOk, OnOk}
+use Rattle.std.proofs.lemmas.List.Elements.{All-contains}
+use Rattle.rup_checker.specs.Formulas.{IsLiteral}
+use Rattle.rup_checker.specs.Stores.{clause_at}
+use Rattle.cdcl_solver.specs.declared.watches.Watch.{Watch}
+use Rattle.cdcl_solver.specs.Watches.{listed}
+use Rattle.cdcl_solver.specs.Searches.{Searched, taken, IsSearch, IsLast, IsTakenUp, IsVisited, IsFound, number_at}
+use Rattle.cdcl_solver.proofs.Visiting.{says, c_range, true_found, binary_last, on_visited, on_found}
 use Rattle.cdcl_solver.proofs.search.Search.visit.Goals as goal
 
--- the clause of this number
-found : (c : goal.In_ok-assign) → slice_get (known c.args.formula.now c.args.self.now.steps) c.args.number ≡ Some c.clause-clause.result.now
-found c = subst (λ (ts : List Step). slice_get (known c.args.formula.now ts) c.args.number ≡ Some c.clause-clause.result.now) c.as_slice.ensures c.clause-clause.ensures.value
+pub is_true-requires : goal.is_true-requires
+is_true-requires c =
+    let state = subst IsSearch c.self.view_is c.self.invariant.search in
+    let own : to_z w32 (of_z w32 c.args.literal) ≡ c.args.literal = search rules in
+    let ws : c.of.result.now ≡ listed c.args.self.now.lists c.args.literal =
+    subst (λ (s : Searched). c.of.result.now ≡ listed s.lists c.args.literal) c.self.view_is (c.of.ensures ∙ ap (λ (m : ℤ). listed c.self.inside.watches m) own) in
+    let is : get_or c.of.result.now c.args.at (record { number = 0; other = pos 0; binary = false }) ≡ get_or (listed c.args.self.now.lists c.args.literal) c.args.at (record { number = 0; other = pos 0; binary = false }) = ap (λ (vs : List Watch). get_or vs c.args.at (record { number = 0; other = pos 0; binary = false })) ws in
+    let read : to_z w32 (of_z w32 (get_or c.of.result.now c.args.at (record { number = 0; other = pos 0; binary = false })).other) ≡ (get_or c.of.result.now c.args.at (record { number = 0; other = pos 0; binary = false })).other = search rules in
+    let same = read ∙ ap (λ (w : Watch). w.other) is in
+    subst (IsLiteral c.args.self.now.variables) (sym same) (All-contains (IsLiteral c.args.self.now.variables) (clause_at c.args.self.now.clauses (number_at c.args.self.now c.args.literal c.args.at)) (get_or (listed c.args.self.now.lists c.args.literal) c.args.at (record { number = 0; other = pos 0; binary = false })).other (c_range c.args.self.now c.args.literal c.args.at (number_at c.args.self.now c.args.literal c.args.at) state c.requires.in_range c.requires.within refl c.requires.falsified) (says c.args.self.now c.args.literal c.args.at (number_at c.args.self.now c.args.literal c.args.at) state c.requires.in_range c.requires.within refl c.requires.falsified).other)
 
--- the state with one more literal
-more : (c : goal.In_ok-assign) → IsSearch c.args.formula.now c.assign.new.self × (free c.assign.new.self.values < free c.args.self.now.values)
-more c =
-    let f = c.args.formula.now in
-    let s = c.args.self.now in
-    let l = c.in-Unit.literal in
-    let same : to_z w32 (of_z w32 c.in-Unit.literal) ≡ c.in-Unit.literal = search rules in
-    let unit = subst (λ (vs : Values). IsStatus vs c.clause-clause.result.now (status.Unit c.in-Unit.literal)) c.as_slice-2.ensures c.in-Unit.ensures in
-    let why = unit_reason f s c.args.number c.clause-clause.result.now l c.requires.search (found c) c.clause-clause.ensures.in_range unit.0 in
-    assigned f s c.assign.new.self l (reason.Clause c.args.number) c.requires.search why.0 unit.1 why.1 c.assign.ensures.steps
-    (c.in_ok-assign.ensures.trail ∙ ap (λ (k : ℤ). c.args.self.now.trail ++ record { literal = k; reason = reason.Clause c.args.number } ∷ []) same)
-    (c.in_ok-assign.ensures.values ∙ ap (λ (k : ℤ). with_value c.args.self.now.values k (Some (sign k))) same)
+pub returns-then-is_true-clause-found : goal.returns-then-is_true-clause-found
+returns-then-is_true-clause-found c =
+    let state = subst IsSearch c.self.view_is c.self.invariant.search in
+    let own : to_z w32 (of_z w32 c.args.literal) ≡ c.args.literal = search rules in
+    let ws : c.of.result.now ≡ listed c.args.self.now.lists c.args.literal =
+    subst (λ (s : Searched). c.of.result.now ≡ listed s.lists c.args.literal) c.self.view_is (c.of.ensures ∙ ap (λ (m : ℤ). listed c.self.inside.watches m) own) in
+    let is : get_or c.of.result.now c.args.at (record { number = 0; other = pos 0; binary = false }) ≡ get_or (listed c.args.self.now.lists c.args.literal) c.args.at (record { number = 0; other = pos 0; binary = false }) = ap (λ (vs : List Watch). get_or vs c.args.at (record { number = 0; other = pos 0; binary = false })) ws in
+    let read : to_z w32 (of_z w32 (get_or c.of.result.now c.args.at (record { number = 0; other = pos 0; binary = false })).other) ≡ (get_or c.of.result.now c.args.at (record { number = 0; other = pos 0; binary = false })).other = search rules in
+    let same = read ∙ ap (λ (w : Watch). w.other) is in
+    true_found c.args.self.now c.args.literal c.args.at (number_at c.args.self.now c.args.literal c.args.at) state c.requires.in_range c.requires.within refl c.requires.falsified (get_or (listed c.args.self.now.lists c.args.literal) c.args.at (record { number = 0; other = pos 0; binary = false })).other (says c.args.self.now c.args.literal c.args.at (number_at c.args.self.now c.args.literal c.args.at) state c.requires.in_range c.requires.within refl c.requires.falsified).other (subst (λ (m : ℤ). Contains (taken c.args.self.now) (neg_ℤ m)) same (c.if-is_true.ensures.0 refl))
 
-pub returns-in_ok-assign-clause-search : goal.returns-in_ok-assign-clause-search
-returns-in_ok-assign-clause-search c = (more c).0
+pub take_up-requires-clause-in_range : goal.take_up-requires-clause-in_range
+take_up-requires-clause-in_range c =
+    let state = subst IsSearch c.self.view_is c.self.invariant.search in
+    let own : to_z w32 (of_z w32 c.args.literal) ≡ c.args.literal = search rules in
+    let ws : c.of.result.now ≡ listed c.args.self.now.lists c.args.literal =
+    subst (λ (s : Searched). c.of.result.now ≡ listed s.lists c.args.literal) c.self.view_is (c.of.ensures ∙ ap (λ (m : ℤ). listed c.self.inside.watches m) own) in
+    let is : get_or c.of.result.now c.args.at (record { number = 0; other = pos 0; binary = false }) ≡ get_or (listed c.args.self.now.lists c.args.literal) c.args.at (record { number = 0; other = pos 0; binary = false }) = ap (λ (vs : List Watch). get_or vs c.args.at (record { number = 0; other = pos 0; binary = false })) ws in
+    let read : to_z w32 (of_z w32 (get_or c.of.result.now c.args.at (record { number = 0; other = pos 0; binary = false })).other) ≡ (get_or c.of.result.now c.args.at (record { number = 0; other = pos 0; binary = false })).other = search rules in
+    let same = read ∙ ap (λ (w : Watch). w.other) is in
+    subst (IsLiteral c.args.self.now.variables) (sym same) (All-contains (IsLiteral c.args.self.now.variables) (clause_at c.args.self.now.clauses (number_at c.args.self.now c.args.literal c.args.at)) (get_or (listed c.args.self.now.lists c.args.literal) c.args.at (record { number = 0; other = pos 0; binary = false })).other (c_range c.args.self.now c.args.literal c.args.at (number_at c.args.self.now c.args.literal c.args.at) state c.requires.in_range c.requires.within refl c.requires.falsified) (says c.args.self.now c.args.literal c.args.at (number_at c.args.self.now c.args.literal c.args.at) state c.requires.in_range c.requires.within refl c.requires.falsified).other)
 
-pub returns-in_ok-assign-clause-free : goal.returns-in_ok-assign-clause-free
-returns-in_ok-assign-clause-free c = let h = (more c).1 in omega arith
+pub take_up-requires-clause-last : goal.take_up-requires-clause-last
+take_up-requires-clause-last c =
+    let state = subst IsSearch c.self.view_is c.self.invariant.search in
+    let own : to_z w32 (of_z w32 c.args.literal) ≡ c.args.literal = search rules in
+    let ws : c.of.result.now ≡ listed c.args.self.now.lists c.args.literal =
+    subst (λ (s : Searched). c.of.result.now ≡ listed s.lists c.args.literal) c.self.view_is (c.of.ensures ∙ ap (λ (m : ℤ). listed c.self.inside.watches m) own) in
+    let is : get_or c.of.result.now c.args.at (record { number = 0; other = pos 0; binary = false }) ≡ get_or (listed c.args.self.now.lists c.args.literal) c.args.at (record { number = 0; other = pos 0; binary = false }) = ap (λ (vs : List Watch). get_or vs c.args.at (record { number = 0; other = pos 0; binary = false })) ws in
+    let read : to_z w32 (of_z w32 (get_or c.of.result.now c.args.at (record { number = 0; other = pos 0; binary = false })).other) ≡ (get_or c.of.result.now c.args.at (record { number = 0; other = pos 0; binary = false })).other = search rules in
+    let same = read ∙ ap (λ (w : Watch). w.other) is in
+    subst (λ (m : ℤ). IsLast c.args.self.now (get_or c.of.result.now c.args.at (record { number = 0; other = pos 0; binary = false })).number m) (sym read) (subst (λ (w : Watch). IsLast c.args.self.now w.number w.other) (sym is) (binary_last c.args.self.now c.args.literal c.args.at (number_at c.args.self.now c.args.literal c.args.at) state c.requires.in_range c.requires.within refl c.requires.falsified (subst (λ (w : Watch). w.binary ≡ true) is c.if-watch.true)))
 
-pub returns-in_ok-assign-clause-found : goal.returns-in_ok-assign-clause-found
-returns-in_ok-assign-clause-found c = (more c).1
+pub returns-then-watch-clause-visited : goal.returns-then-watch-clause-visited
+returns-then-watch-clause-visited c =
+    let state = subst IsSearch c.self.view_is c.self.invariant.search in
+    let own : to_z w32 (of_z w32 c.args.literal) ≡ c.args.literal = search rules in
+    let ws : c.of.result.now ≡ listed c.args.self.now.lists c.args.literal =
+    subst (λ (s : Searched). c.of.result.now ≡ listed s.lists c.args.literal) c.self.view_is (c.of.ensures ∙ ap (λ (m : ℤ). listed c.self.inside.watches m) own) in
+    let is : get_or c.of.result.now c.args.at (record { number = 0; other = pos 0; binary = false }) ≡ get_or (listed c.args.self.now.lists c.args.literal) c.args.at (record { number = 0; other = pos 0; binary = false }) = ap (λ (vs : List Watch). get_or vs c.args.at (record { number = 0; other = pos 0; binary = false })) ws in
+    let read : to_z w32 (of_z w32 (get_or c.of.result.now c.args.at (record { number = 0; other = pos 0; binary = false })).other) ≡ (get_or c.of.result.now c.args.at (record { number = 0; other = pos 0; binary = false })).other = search rules in
+    let same = read ∙ ap (λ (w : Watch). w.other) is in
+    on_visited c.args.self.now c.args.literal c.args.at (number_at c.args.self.now c.args.literal c.args.at) state c.requires.in_range c.requires.within refl c.requires.falsified c.take_up.new.self (get_or (listed c.args.self.now.lists c.args.literal) c.args.at (record { number = 0; other = pos 0; binary = false })).other (binary_last c.args.self.now c.args.literal c.args.at (number_at c.args.self.now c.args.literal c.args.at) state c.requires.in_range c.requires.within refl c.requires.falsified (subst (λ (w : Watch). w.binary ≡ true) is c.if-watch.true)) c.take_up.result (subst (λ (w : Watch). IfOk c.take_up.result (IsTakenUp c.args.self.now c.take_up.new.self w.number w.other)) is (subst (λ (m : ℤ). IfOk c.take_up.result (IsTakenUp c.args.self.now c.take_up.new.self (get_or c.of.result.now c.args.at (record { number = 0; other = pos 0; binary = false })).number m)) read c.take_up.ensures.found))
 
-pub returns-in_default-clause-found : goal.returns-in_default-clause-found
-returns-in_default-clause-found c =
-    visited c.args.formula.now c.args.self.now c.args.number c.clause-clause.result.now c.status_of-found.result c.requires.search
-    (subst (λ (ts : List Step). slice_get (known c.args.formula.now ts) c.args.number ≡ Some c.clause-clause.result.now) c.as_slice.ensures c.clause-clause.ensures.value)
-    c.clause-clause.ensures.in_range
-    (subst (λ (vs : Values). IsStatus vs c.clause-clause.result.now c.status_of-found.result) c.as_slice-2.ensures c.status_of-found.ensures)
-    c.in_default.not-Unit
+pub returns-then-watch-clause-found : goal.returns-then-watch-clause-found
+returns-then-watch-clause-found c =
+    let state = subst IsSearch c.self.view_is c.self.invariant.search in
+    let own : to_z w32 (of_z w32 c.args.literal) ≡ c.args.literal = search rules in
+    let ws : c.of.result.now ≡ listed c.args.self.now.lists c.args.literal =
+    subst (λ (s : Searched). c.of.result.now ≡ listed s.lists c.args.literal) c.self.view_is (c.of.ensures ∙ ap (λ (m : ℤ). listed c.self.inside.watches m) own) in
+    let is : get_or c.of.result.now c.args.at (record { number = 0; other = pos 0; binary = false }) ≡ get_or (listed c.args.self.now.lists c.args.literal) c.args.at (record { number = 0; other = pos 0; binary = false }) = ap (λ (vs : List Watch). get_or vs c.args.at (record { number = 0; other = pos 0; binary = false })) ws in
+    let read : to_z w32 (of_z w32 (get_or c.of.result.now c.args.at (record { number = 0; other = pos 0; binary = false })).other) ≡ (get_or c.of.result.now c.args.at (record { number = 0; other = pos 0; binary = false })).other = search rules in
+    let same = read ∙ ap (λ (w : Watch). w.other) is in
+    on_found c.args.self.now c.args.literal c.args.at (number_at c.args.self.now c.args.literal c.args.at) state c.requires.in_range c.requires.within refl c.requires.falsified c.take_up.new.self (get_or (listed c.args.self.now.lists c.args.literal) c.args.at (record { number = 0; other = pos 0; binary = false })).other (binary_last c.args.self.now c.args.literal c.args.at (number_at c.args.self.now c.args.literal c.args.at) state c.requires.in_range c.requires.within refl c.requires.falsified (subst (λ (w : Watch). w.binary ≡ true) is c.if-watch.true)) c.take_up.result (subst (λ (w : Watch). IfOk c.take_up.result (IsTakenUp c.args.self.now c.take_up.new.self w.number w.other)) is (subst (λ (m : ℤ). IfOk c.take_up.result (IsTakenUp c.args.self.now c.take_up.new.self (get_or c.of.result.now c.args.at (record { number = 0; other = pos 0; binary = false })).number m)) read c.take_up.ensures.found))
+
+pub visit_clause-requires-clause-number : goal.visit_clause-requires-clause-number
+visit_clause-requires-clause-number c =
+    let state = subst IsSearch c.self.view_is c.self.invariant.search in
+    let own : to_z w32 (of_z w32 c.args.literal) ≡ c.args.literal = search rules in
+    let ws : c.of.result.now ≡ listed c.args.self.now.lists c.args.literal =
+    subst (λ (s : Searched). c.of.result.now ≡ listed s.lists c.args.literal) c.self.view_is (c.of.ensures ∙ ap (λ (m : ℤ). listed c.self.inside.watches m) own) in
+    let is : get_or c.of.result.now c.args.at (record { number = 0; other = pos 0; binary = false }) ≡ get_or (listed c.args.self.now.lists c.args.literal) c.args.at (record { number = 0; other = pos 0; binary = false }) = ap (λ (vs : List Watch). get_or vs c.args.at (record { number = 0; other = pos 0; binary = false })) ws in
+    ap (λ (m : ℤ). number_at c.args.self.now m c.args.at) own ∙ ap (λ (w : Watch). w.number) (sym is)
+
+pub returns-clause-visited : goal.returns-clause-visited
+returns-clause-visited c =
+    let state = subst IsSearch c.self.view_is c.self.invariant.search in
+    let own : to_z w32 (of_z w32 c.args.literal) ≡ c.args.literal = search rules in
+    let ws : c.of.result.now ≡ listed c.args.self.now.lists c.args.literal =
+    subst (λ (s : Searched). c.of.result.now ≡ listed s.lists c.args.literal) c.self.view_is (c.of.ensures ∙ ap (λ (m : ℤ). listed c.self.inside.watches m) own) in
+    let is : get_or c.of.result.now c.args.at (record { number = 0; other = pos 0; binary = false }) ≡ get_or (listed c.args.self.now.lists c.args.literal) c.args.at (record { number = 0; other = pos 0; binary = false }) = ap (λ (vs : List Watch). get_or vs c.args.at (record { number = 0; other = pos 0; binary = false })) ws in
+    subst (λ (m : ℤ). OnOk c.visit_clause.result (IsVisited c.args.self.now c.visit_clause.new.self m c.args.at (number_at c.args.self.now c.args.literal c.args.at))) own
+    (subst (λ (w : Watch). OnOk c.visit_clause.result (IsVisited c.args.self.now c.visit_clause.new.self (to_z w32 (of_z w32 c.args.literal)) c.args.at w.number)) is c.visit_clause.ensures.visited)
+
+pub returns-clause-found : goal.returns-clause-found
+returns-clause-found c =
+    let state = subst IsSearch c.self.view_is c.self.invariant.search in
+    let own : to_z w32 (of_z w32 c.args.literal) ≡ c.args.literal = search rules in
+    let ws : c.of.result.now ≡ listed c.args.self.now.lists c.args.literal =
+    subst (λ (s : Searched). c.of.result.now ≡ listed s.lists c.args.literal) c.self.view_is (c.of.ensures ∙ ap (λ (m : ℤ). listed c.self.inside.watches m) own) in
+    let is : get_or c.of.result.now c.args.at (record { number = 0; other = pos 0; binary = false }) ≡ get_or (listed c.args.self.now.lists c.args.literal) c.args.at (record { number = 0; other = pos 0; binary = false }) = ap (λ (vs : List Watch). get_or vs c.args.at (record { number = 0; other = pos 0; binary = false })) ws in
+    subst (λ (m : ℤ). IfOk c.visit_clause.result (IsFound c.visit_clause.new.self m (number_at c.args.self.now c.args.literal c.args.at))) own
+    (subst (λ (w : Watch). IfOk c.visit_clause.result (IsFound c.visit_clause.new.self (to_z w32 (of_z w32 c.args.literal)) w.number)) is c.visit_clause.ensures.found)
