@@ -58,11 +58,7 @@ fn sign(value: bool) -> &'static str {
 }
 
 /// An obligation that is the expression at one row, and true at every other.
-fn push_obligation(
-    text: &mut String,
-    expression: &str,
-    row: [bool; 3],
-) -> Result<(), AllocError> {
+fn push_obligation(text: &mut String, expression: &str, row: [bool; 3]) -> Result<(), AllocError> {
     let [a, b, c] = row.map(sign);
     write!(text, "~({a}a&{b}b&{c}c) # ({expression});\n")
 }
