@@ -1,0 +1,15 @@
+pub mod CongruenceLemmas
+pub mod ValueLemmas
+pub mod SpellingLemmas
+pub mod ExtensionLemmas
+pub mod ChoiceLemmas
+pub mod SumLemmas
+pub mod PlaceLemmas
+pub mod DifferenceLemmas
+pub mod ComparisonLemmas
+pub mod BoundLemmas
+pub mod ReadingLemmas
+pub mod ProductLemmas
+pub mod QuotientLemmas
+pub mod StepLemmas
+pub mod CodeLemmas
