@@ -18,6 +18,9 @@ pub mod Learning
 pub mod Attaching
 pub mod Asserting
 pub mod Retracting
-pub mod Explaining
 pub mod Marking
+pub mod Locating
+pub mod Walking
+pub mod Explaining
+pub mod Showing
 pub mod Solving

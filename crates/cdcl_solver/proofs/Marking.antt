@@ -104,3 +104,26 @@ clauses_all f new n p q same = record {
   where
     order : (a b : ℕ) → (a < b) ⊎ (b ≤ a)
     order a b = grind arith
+
+-- one more literal of a clause is marked
+pub marked_more : (first old new : Marking) (clause : List ℤ) (i : ℕ) (x : ℤ) → i < length clause → x ≡ get_or clause i (pos 0) → IsMarked new x → ((l : ℤ) → l ≢ x → IsMarked new l ↔ IsMarked old l)
+    → ((m : ℤ) → IsMarked old m ↔ (IsMarked first m ⊎ Contains (take i clause) m)) → (m : ℤ) → IsMarked new m ↔ (IsMarked first m ⊎ Contains (take (i + 1) clause) m)
+marked_more first old new clause i x low is itself others before m = (
+  (λ h. elim (ℤ_discrete m x) [
+    | yes e ↦ inr (subst (λ (ls : List ℤ). Contains ls m) (sym (take_more clause i (pos 0) low)) (subst (Contains (take i clause ++ get_or clause i (pos 0) ∷ [])) (sym (e ∙ is)) (Contains-push (take i clause) (get_or clause i (pos 0)))))
+    | no ne ↦ elim ((before m).0 ((others m ne).0 h)) [
+      | inl was ↦ inl was
+      | inr there ↦ inr (subst (λ (ls : List ℤ). Contains ls m) (sym (take_more clause i (pos 0) low)) (Contains-append_left (take i clause) (get_or clause i (pos 0) ∷ []) m there))
+    ]
+  ]),
+  (λ h. elim (ℤ_discrete m x) [
+    | yes e ↦ subst (IsMarked new) (sym e) itself
+    | no ne ↦ (others m ne).1 ((before m).1 (elim h [
+      | inl was ↦ inl was
+      | inr there ↦ elim (Contains-push_cases (take i clause) (get_or clause i (pos 0)) m (subst (λ (ls : List ℤ). Contains ls m) (take_more clause i (pos 0) low) there)) [
+        | inl early ↦ inr early
+        | inr own ↦ absurd (ne (sym own ∙ sym is))
+      ]
+    ]))
+  ]),
+)

@@ -1,7 +1,7 @@
 -- A search and the log of what it learnt.
 use Rattle.std.proofs.Common.{◌≡◌, ◌≢◌, ◌+◌, ◌-◌, ◌*◌, ◌<◌, ◌≤◌, ◌++◌, ◌∷◌, [], ◌⊎◌, inl, inr, ℕ, zero, suc, List, refl, sym, ap, subst, ◌∙◌, length, get_or, take, drop, reverse, length-append, append-nil, Bool, true, false, arith}
 use Rattle.std.specs.Prelude.{ℤ, pos, negsuc, neg_ℤ, nat_abs, not, All, Any, Contains, IsSomeAnd, IsTrue, slice_get, ◌↔◌}
-use Rattle.std.proofs.Math.IntN.{neg_ℤ-neg_ℤ}
+use Rattle.std.proofs.Math.IntN.{ℤ_discrete}
 use Rattle.std.proofs.lemmas.List.{length-map, length_push, length-take-le, take-take, get_or_default, get_or-take, get_or_append_left, reverse-append}
 use Rattle.std.proofs.lemmas.List.Elements.{All-contains, All-append, Contains-get_or}
 use Rattle.rup_checker.specs.declared.log.Step.{Step}
@@ -9,24 +9,24 @@ use Rattle.rup_checker.specs.Formulas.{Cnf, IsLiteral, truth, listed}
 use Rattle.rup_checker.specs.Steps.{IsAllFalse, IsUnit, Propagates, Refutes, IsAccepted}
 use Rattle.rup_checker.specs.Stores.{clause_at}
 use Rattle.rup_checker.specs.Logs.{known, added, Each, AreAccepted, IsQuiet, IsComplete, IsNew, IsBusy, IsOneEmpowering, Grows}
-use Rattle.cdcl_solver.specs.declared.analysis.Explained.{Explained}
+use Rattle.cdcl_solver.specs.declared.analysis.Learnt.{Learnt}
 use Rattle.cdcl_solver.specs.declared.trail.Assigned.{Assigned}
 use Rattle.cdcl_solver.specs.declared.trail.Reason.TheVariants as reason
 use Rattle.cdcl_solver.specs.Trails.{falses}
 use Rattle.cdcl_solver.specs.Searches.{Searched, taken, IsSearch, IsSettled, IsFresh, IsImplied, IsAsserting, IsLearnt, AreSame, GoesOn, assigned}
-use Rattle.cdcl_solver.specs.Explanations.{IsBack, IsExplained}
+use Rattle.cdcl_solver.specs.Explanations.{IsBack, IsShown}
 use Rattle.cdcl_solver.specs.Answers.{IsModel, IsRefutation, IsSpent}
 use Rattle.cdcl_solver.proofs.Members.{IsWithin, none_in, all_from_in, decide_in}
 use Rattle.cdcl_solver.proofs.Asserting.{nothing, decision_safe}
 use Rattle.cdcl_solver.proofs.Attaching.{clause_before, clause_last_at}
 use Rattle.cdcl_solver.proofs.Bound.{busy_short}
-use Rattle.cdcl_solver.proofs.Complete.{complete_open}
+use Rattle.cdcl_solver.proofs.Complete.{complete_open, complete_unrefuted}
 use Rattle.cdcl_solver.proofs.Derivations.{derives_more, derives_refutes, some_at, at_some_and, some_low}
 use Rattle.cdcl_solver.proofs.Learning.{learnt_new, learnt_grows}
 use Rattle.cdcl_solver.proofs.Rewatching.{unit_same, number_within}
 use Rattle.cdcl_solver.proofs.Safety.{all_quiet}
 use Rattle.cdcl_solver.proofs.Steps.{known_push, each_push, each_none}
-use Rattle.cdcl_solver.proofs.TrailParts.{IsConsistent, false_since, trail_front, trail_consistent}
+use Rattle.cdcl_solver.proofs.TrailParts.{IsConsistent, false_since, falses_earlier, falses_front, trail_front, trail_consistent}
 use Rattle.cdcl_solver.proofs.Visiting.{same_trans}
 
 -- the log is busy but for its end, the search has its clauses, and decided nothing before it started
@@ -136,11 +136,22 @@ negation_literal n l lit = record {
   known = subst (λ (k : ℕ). k ≤ n) (sym (nat_abs-neg l)) lit.known;
 }
 
-first_and_rest : (hints : List ℕ) → 0 < length hints → reverse hints ≡ reverse (drop 1 hints) ++ get_or hints 0 0 ∷ []
-first_and_rest [] some = absurd (omega (arith, some))
-first_and_rest (h ∷ hs) some = reverse-append (h ∷ []) hs
+positive_length : (n : ℕ) → 0 < n → n ≡ 0 → ⊥
+positive_length n some none = omega (arith, some, none)
 
-module _ (f : Cnf) (s : Searched) (steps : List Step) (h : IsSolving f s steps) (e : Explained) (ex : IsExplained s 0 e) where
+zero_of : (n : ℕ) → n ≤ 0 → n ≡ 0
+zero_of n low = omega (arith, low)
+
+last_of : (n m : ℕ) → 0 < n → n ≤ m → n - 1 < m
+last_of n m some le = omega (arith, some, le)
+
+below_last : (n b : ℕ) → b < n → b ≤ n - 1
+below_last n b less = omega (arith, less)
+
+last_place : (n : ℕ) → 0 < n → n - 1 + 1 ≡ n
+last_place n some = omega (arith, some)
+
+module _ (f : Cnf) (s : Searched) (steps : List Step) (h : IsSolving f s steps) (e : Learnt) (w : IsShown s e) where
   search : IsSearch s
   search = h.search
 
@@ -152,30 +163,45 @@ module _ (f : Cnf) (s : Searched) (steps : List Step) (h : IsSolving f s steps) 
       let p = false_since s.trail l nothing here in
       subst (IsLiteral s.variables) p.2 (negation_literal s.variables (get_or s.trail p.0 nothing).literal (search.justified p.0 nothing p.1).in_range)
 
-  clause_range : All (IsLiteral s.variables) e.clause
-  clause_range = all_from_in (IsLiteral s.variables) e.clause (λ l here. false_range l (ex.kept l here).0)
+  clause_range : All (IsLiteral s.variables) e.step.clause
+  clause_range = all_from_in (IsLiteral s.variables) e.step.clause (λ l here. false_range l (w.within l here))
 
-  within : IsWithin e.clause (taken s)
-  within l here = (ex.kept l here).0
-
-  pub step_accepted : (hints : List ℕ) → hints ≡ reverse e.hints → IsAccepted f.variables (known f steps) e.clause hints
+  pub step_accepted : (hints : List ℕ) → hints ≡ e.step.hints → IsAccepted f.variables (known f steps) e.step.clause hints
   step_accepted hints is = record {
-    in_range = subst (λ (n : ℕ). All (IsLiteral n) e.clause) h.variables clause_range;
-    refuted = same_refutes (known f steps) s.clauses h.same e.clause hints (subst (Refutes s.clauses e.clause) (sym (is ∙ first_and_rest e.hints ex.some))
-        (derives_refutes s.clauses (taken s) e.clause (reverse (drop 1 e.hints)) (get_or e.hints 0 0) consistent within
-        (derives_more s.clauses (taken s) (λ l. Contains e.clause l ⊎ Contains (falses (take 0 s.trail)) l) (Contains e.clause) (reverse (drop 1 e.hints)) (get_or e.hints 0 0)
-        (λ m d. elim d [ inl there ↦ there | inr early ↦ absurd (none_in m early) ]) ex.derives)));
+    in_range = subst (λ (n : ℕ). All (IsLiteral n) e.step.clause) h.variables clause_range;
+    refuted = same_refutes (known f steps) s.clauses h.same e.step.clause hints (subst (Refutes s.clauses e.step.clause) (sym is) w.refuted);
   }
 
-  module _ (some : 0 < length e.clause) where
-    back : IsBack s 0 e
-    back = ex.back some
+  module _ (some : 0 < length e.step.clause) where
+    order : (m n : ℕ) → (m < n) ⊎ (n ≤ m)
+    order m n = grind arith
+
+    nothing_some : e.step.clause ≡ [] → ⊥
+    nothing_some empty = absurd (positive_length (length e.step.clause) some (ap length empty))
+
+    level : 0 < w.start
+    level = elim (order 0 w.start) [ inl less ↦ less | inr far ↦ absurd (nothing_some (w.none (zero_of w.start far))) ]
+
+    back : IsBack s 0 w.start e.back e.step.clause
+    back = w.back level
+
+    abbrev last : ℕ
+    last = w.start - 1
+
+    last_low : last < length s.trail
+    last_low = last_of w.start (length s.trail) level w.level.within
+
+    last_decided : (get_or s.trail last nothing).reason ≡ reason.Decision
+    last_decided = w.level.decided last nothing (last_place w.start level)
+
+    abbrev before_last : List ℤ
+    before_last = falses (take last s.trail)
 
     abbrev before : List ℤ
     before = falses (take e.back s.trail)
 
     pub back_low : e.back < length s.trail
-    back_low = back.low
+    back_low = omega (arith, back.low, w.level.within)
 
     pub back_decided : (get_or s.trail e.back nothing).reason ≡ reason.Decision
     back_decided = back.decided nothing
@@ -183,47 +209,58 @@ module _ (f : Cnf) (s : Searched) (steps : List Step) (h : IsSolving f s steps) 
     pub is_started : s.started ≡ true
     is_started = elim h.begun [
       | inl yes' ↦ yes'
-      | inr all ↦ let p = all e.back nothing back.low in absurd (clause_decision p.0 (sym p.1 ∙ back_decided))
+      | inr all ↦ let p = all e.back nothing back_low in absurd (clause_decision p.0 (sym p.1 ∙ back_decided))
     ]
       where
         clause_decision : (k : ℕ) → reason.Clause k ≡ reason.Decision → ⊥
         clause_decision k e = cc
 
-    before_consistent : IsConsistent before
-    before_consistent = trail_consistent s.variables s.clauses (take e.back s.trail) (trail_front s.variables s.clauses s.trail search.justified e.back (omega (arith, back.low)))
+    last_consistent : IsConsistent before_last
+    last_consistent = trail_consistent s.variables s.clauses (take last s.trail) (trail_front s.variables s.clauses s.trail search.justified last (omega (arith, last_low)))
 
-    complete : IsComplete (known f steps) (Contains before)
-    complete = same_complete (known f steps) s.clauses h.same before
-        (all_quiet before s.clauses before_consistent search.clauses.apart (decision_safe s.clauses before _ _ (search.justified e.back nothing back.low).reason back_decided))
+    complete_there : IsComplete s.clauses (Contains before_last)
+    complete_there = all_quiet before_last s.clauses last_consistent search.clauses.apart (decision_safe s.clauses before_last _ _ (search.justified last nothing last_low).reason last_decided)
+
+    complete : IsComplete (known f steps) (Contains before_last)
+    complete = same_complete (known f steps) s.clauses h.same before_last complete_there
 
     abbrev u : ℤ
-    u = get_or e.clause 0 (pos 0)
+    u = get_or e.step.clause 0 (pos 0)
 
-    u_is : u ≡ neg_ℤ (get_or s.trail e.back nothing).literal
-    u_is = back.first (pos 0) nothing
+    u_in : Contains e.step.clause u
+    u_in = Contains-get_or e.step.clause 0 (pos 0) some
 
-    free : (¬ (Contains before u)) × (¬ (Contains before (neg_ℤ u)))
-    free =
-        let both = (search.justified e.back nothing back.low).free in (
-          (λ there. both.1 (subst (Contains before) u_is there)),
-          (λ there. both.0 (subst (Contains before) (ap neg_ℤ u_is ∙ neg_ℤ-neg_ℤ (get_or s.trail e.back nothing).literal) there)),
-        )
-
-    others : (l : ℤ) → Contains e.clause l → l ≢ u → Contains before l
-    others l here ne = by_place here.0 here.1 here.2
+    others_back : (l : ℤ) → Contains e.step.clause l → l ≢ u → Contains before l
+    others_back l here ne = by_place here.0 here.1 here.2
       where
-        by_place : (k : ℕ) → k < length e.clause → get_or e.clause k l ≡ l → Contains before l
-        by_place zero low e' = absurd (ne (sym e' ∙ get_or_default e.clause 0 l (pos 0) some))
+        by_place : (k : ℕ) → k < length e.step.clause → get_or e.step.clause k l ≡ l → Contains before l
+        by_place zero low e' = absurd (ne (sym e' ∙ get_or_default e.step.clause 0 l (pos 0) some))
         by_place (suc k) low e' = subst (Contains before) e' (back.others (suc k) l (omega arith) low)
 
-    clause_consistent : IsConsistent e.clause
-    clause_consistent l here there = consistent l (within l here) (within (neg_ℤ l) there)
+    back_within : IsWithin before before_last
+    back_within = falses_earlier e.back last s.trail (below_last w.start e.back back.low)
 
-    step_new : IsNew (known f steps) e.clause
-    step_new = learnt_new (known f steps) before e.clause u complete (Contains-get_or e.clause 0 (pos 0) some) others free.0 free.1 clause_consistent
+    others : (l : ℤ) → Contains e.step.clause l → l ≢ u → Contains before_last l
+    others l here ne = back_within l (others_back l here ne)
 
-    step_grows : IsOneEmpowering (known f steps) e.clause
-    step_grows = learnt_grows (known f steps) before e.clause u complete (Contains-get_or e.clause 0 (pos 0) some) others free.0 free.1 before_consistent
+    -- the first literal was not false before the last decision, since the clause would have been there
+    free : (¬ (Contains before_last u)) × (¬ (Contains before_last (neg_ℤ u)))
+    free = (
+      (λ there. complete_unrefuted s.clauses before_last e.step.clause e.step.hints complete_there (λ l here. elim (ℤ_discrete l u) [
+        | yes e' ↦ subst (Contains before_last) (sym e') there
+        | no ne ↦ others l here ne
+      ]) w.refuted),
+      (λ there. consistent u (w.within u u_in) (falses_front last s.trail (neg_ℤ u) there)),
+    )
+
+    clause_consistent : IsConsistent e.step.clause
+    clause_consistent l here there = consistent l (w.within l here) (w.within (neg_ℤ l) there)
+
+    step_new : IsNew (known f steps) e.step.clause
+    step_new = learnt_new (known f steps) before_last e.step.clause u complete u_in others free.0 free.1 clause_consistent
+
+    step_grows : IsOneEmpowering (known f steps) e.step.clause
+    step_grows = learnt_grows (known f steps) before_last e.step.clause u complete u_in others free.0 free.1 last_consistent
 
     pub is_spent : (budget : ℕ) → length steps ≡ budget → IsSpent f budget steps
     is_spent budget whole = record {
@@ -234,30 +271,31 @@ module _ (f : Cnf) (s : Searched) (steps : List Step) (h : IsSolving f s steps) 
     }
       where
         busy : IsBusy f steps
-        busy = record { accepted = h.accepted; new = h.new; open_end = complete_open (known f steps) before complete }
+        busy = record { accepted = h.accepted; new = h.new; open_end = complete_open (known f steps) before_last complete }
 
     abbrev t : Searched
     t = record s { trail = take e.back s.trail; followed = e.back }
 
     pub back_settled : IsSettled t
-    back_settled = record { started = is_started; followed = sym (length-take-le e.back s.trail (omega (arith, back.low))) }
+    back_settled = record { started = is_started; followed = sym (length-take-le e.back s.trail (omega (arith, back_low))) }
 
-    pub back_asserting : IsAsserting t e.clause
+    pub back_asserting : IsAsserting t e.step.clause
     back_asserting = record {
       some = some;
       in_range = clause_range;
-      apart = ex.apart;
-      free = λ d. subst (λ (l : ℤ). (¬ (Contains before l)) × (¬ (Contains before (neg_ℤ l)))) (get_or_default e.clause 0 (pos 0) d some) free;
+      apart = w.apart;
+      free = λ d. subst (λ (l : ℤ). (¬ (Contains before l)) × (¬ (Contains before (neg_ℤ l)))) (get_or_default e.step.clause 0 (pos 0) d some)
+          ((λ there. free.0 (back_within u there)), (λ there. free.1 (back_within (neg_ℤ u) there)));
       others = λ k d one less. back.others k d one less;
       second = λ place a d low decision.
-          let less : place < e.back = omega (arith, low, length-take-le e.back s.trail (omega (arith, back.low))) in
+          let less : place < e.back = omega (arith, low, length-take-le e.back s.trail (omega (arith, back_low))) in
           let two = back.second place a d (omega arith) less (ap (λ (b : Assigned). b.reason) (sym (get_or-take e.back s.trail place a less)) ∙ decision) in (
             two.0,
-            λ there. two.1 (subst (λ (ts : List Assigned). Contains (falses ts) (get_or e.clause 1 d)) (take-take place e.back s.trail (omega (arith, less))) there),
+            λ there. two.1 (subst (λ (ts : List Assigned). Contains (falses ts) (get_or e.step.clause 1 d)) (take-take place e.back s.trail (omega (arith, less))) there),
           );
     }
 
-    pub solving_learns : (next : Searched) (step : Step) (more : List Step) → IsSearch next → IsLearnt t next step.clause → step.clause ≡ e.clause → step.hints ≡ reverse e.hints → more ≡ steps ++ step ∷ [] → IsSolving f next more
+    pub solving_learns : (next : Searched) (step : Step) (more : List Step) → IsSearch next → IsLearnt t next step.clause → step.clause ≡ e.step.clause → step.hints ≡ e.step.hints → more ≡ steps ++ step ∷ [] → IsSolving f next more
     solving_learns next step more searched learnt is is_hints grown = subst (IsSolving f next) (sym grown) (record {
       search = searched;
       variables = learnt.variables ∙ h.variables;
@@ -271,7 +309,7 @@ module _ (f : Cnf) (s : Searched) (steps : List Step) (h : IsSolving f s steps) 
     })
 
   -- without a clause the formula is refuted
-  pub is_refuted : (budget : ℕ) (step : Step) (more : List Step) → step.clause ≡ e.clause → step.hints ≡ reverse e.hints → step.clause ≡ [] → length steps ≤ budget → more ≡ steps ++ step ∷ [] → IsRefutation f budget more
+  pub is_refuted : (budget : ℕ) (step : Step) (more : List Step) → step.clause ≡ e.step.clause → step.hints ≡ e.step.hints → step.clause ≡ [] → length steps ≤ budget → more ≡ steps ++ step ∷ [] → IsRefutation f budget more
   is_refuted budget step more is is_hints empty few grown = record {
     accepted = record {
       accepted = subst (AreAccepted f) (sym grown) (each_push (λ clauses r. IsAccepted f.variables clauses r.clause r.hints) f steps step h.accepted

@@ -9,6 +9,7 @@ mod analysis;
 mod answer;
 mod law;
 mod literals;
+mod order;
 mod search;
 mod solver;
 #[cfg(test)]

@@ -96,6 +96,15 @@ impl Search {
         self.trail.as_slice()
     }
 
+    /// The literals of the clause with this number.
+    pub fn clause(&self, number: u32) -> &[i32]
+        requires { number < length self.now.clauses }
+        ensures value { clause_at self.now.clauses number ≡ result.now }
+        ensures in_range { All (IsLiteral self.now.variables) result.now }
+    {
+        self.clauses.clause(number)
+    }
+
     /// Whether a variable has a value.
     fn has_value(&self, variable: u32) -> bool
         requires some { 1 ≤ variable }
@@ -128,6 +137,23 @@ impl Search {
             }
         }
         None
+    }
+
+    /// A literal of a variable in range without a value.
+    pub fn open_literal(&self, variable: u32, negated: bool) -> Option<i32>
+        ensures { IfSome result (λ l. IsLiteral self.now.variables l ×
+            (¬ (Contains (taken self.now) l)) × (¬ (Contains (taken self.now) (neg_ℤ l)))) }
+    {
+        if variable == 0 || variable > self.falsified.variables() {
+            return None;
+        }
+        if self.has_value(variable) {
+            return None;
+        }
+        if negated {
+            return Some(negation(positive(variable)));
+        }
+        Some(positive(variable))
     }
 
     /// Whether each variable is true, that of variable 1 first.

@@ -41,7 +41,7 @@ module _ (signals : List Signal) (window : Bool) (demands : Demands) (n : ℕ) (
   }
 
 -- the opposite of a literal names the same signal
-opposite_there : (signals : List Signal) (p : ℕ) → NamesSignal signals p → NamesSignal signals (opposite p)
+pub opposite_there : (signals : List Signal) (p : ℕ) → NamesSignal signals p → NamesSignal signals (opposite p)
 opposite_there signals p lt = subst (λ k. k < length signals) (sym (signal_of-opposite p)) lt
 
 -- one of two literals
@@ -50,7 +50,7 @@ choice_there signals true p q lp lq = lp
 choice_there signals false p q lp lq = lq
 
 -- literals or none
-some_there : (signals : List Signal) (b : Bool) (ps qs : List ℕ) → All (NamesSignal signals) ps → All (NamesSignal signals) qs → All (NamesSignal signals) (if b then ps else qs)
+pub some_there : (signals : List Signal) (b : Bool) (ps qs : List ℕ) → All (NamesSignal signals) ps → All (NamesSignal signals) qs → All (NamesSignal signals) (if b then ps else qs)
 some_there signals true ps qs lp lq = lp
 some_there signals false ps qs lp lq = lq
 
@@ -58,13 +58,13 @@ module _ (l : Lll) (p : ℕ) (within : p < length l.obligations) where
   obligation_there : NamesSignal l.signals (obligation l p)
   obligation_there = All-get_or (NamesSignal l.signals) l.obligations p 0 within l.is_lll.obligations_there
 
-  base_there : (j t : ℕ) → All (NamesSignal l.signals) (base_demands l (obligation l p) j t)
+  pub base_there : (j t : ℕ) → All (NamesSignal l.signals) (base_demands l (obligation l p) j t)
   base_there j t = All-cons (NamesSignal l.signals) l.assume (l.constraints ++ (if t == j then opposite (obligation l p) ∷ [] else [])) l.is_lll.assume_there
       (All-append (NamesSignal l.signals) l.constraints (if t == j then opposite (obligation l p) ∷ [] else []) l.is_lll.constraints_there
       (some_there l.signals (t == j) (opposite (obligation l p) ∷ []) []
       (All-one (NamesSignal l.signals) (opposite (obligation l p)) (opposite_there l.signals (obligation l p) obligation_there)) (All-none (NamesSignal l.signals))))
 
-  step_there : (k t : ℕ) → All (NamesSignal l.signals) (step_demands l (obligation l p) k t)
+  pub step_there : (k t : ℕ) → All (NamesSignal l.signals) (step_demands l (obligation l p) k t)
   step_there k t = All-append (NamesSignal l.signals) ((if t == 0 then l.keep ∷ [] else []) ++ l.assume ∷ l.constraints) ((if t == k then opposite (obligation l p) else obligation l p) ∷ [])
       (All-append (NamesSignal l.signals) (if t == 0 then l.keep ∷ [] else []) (l.assume ∷ l.constraints)
       (some_there l.signals (t == 0) (l.keep ∷ []) [] (All-one (NamesSignal l.signals) l.keep l.is_lll.keep_there) (All-none (NamesSignal l.signals)))
@@ -81,7 +81,7 @@ module _ (l : Lll) (p : ℕ) (within : p < length l.obligations) where
       (λ t lt. step_there k t) (λ g long meets. is_induction_counterexample l p k g long meets) (λ g is. (is.long, induction_counterexample_meets l p k g is))
 
 module _ (m : MiterLll) (i : ℕ) (within : i < length m.parts) where
-  part_there : NamesSignal m.lll.signals (opposite (part m i))
+  pub part_there : NamesSignal m.lll.signals (opposite (part m i))
   part_there = opposite_there m.lll.signals (part m i) (All-get_or (NamesSignal m.lll.signals) m.parts i 0 within m.are_parts.there)
 
   pub part_base_exact : Describes (part_base_formula m i).clauses m.lll.signals 1 (IsPartCounterexample m i)

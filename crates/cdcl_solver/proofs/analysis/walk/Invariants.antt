@@ -1,11 +1,12 @@
-use Rattle.std.proofs.Common.{◌≤◌, length}
+use Rattle.std.proofs.Common.{◌≡◌, ◌≤◌, length}
 use Rattle.cdcl_solver.specs.Explanations.{IsExplained}
-use Rattle.cdcl_solver.proofs.analysis.explain.Given as goal
+use Rattle.cdcl_solver.proofs.analysis.walk.Given as goal
 
 abbrev pub invariant-loop-at : goal.invariant-loop-at
 invariant-loop-at l = record {
   within : l.at ≤ length l.search.trail;
-  explained : IsExplained l.search l.at l.explained;
+  fixed : l.start ≡ 0 → l.at ≤ l.fixed;
+  explained : IsExplained l.search l.start l.at l.explained;
 }
 
 abbrev pub decreases-loop-at : goal.decreases-loop-at

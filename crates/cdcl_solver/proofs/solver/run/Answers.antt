@@ -6,7 +6,7 @@ use Rattle.rup_checker.specs.Logs.{IsComplete}
 use Rattle.cdcl_solver.specs.Searches.{Searched, taken, IsSettled, IsAsserting, IsLearnt}
 use Rattle.cdcl_solver.proofs.Short.{trail_short}
 use Rattle.cdcl_solver.proofs.Solving.{solving_goes_on, solving_decides, solving_learns, is_refuted, is_spent, is_started, back_decided, back_settled, back_asserting, is_model}
-use Rattle.cdcl_solver.proofs.solver.solve.Goals as goal
+use Rattle.cdcl_solver.proofs.solver.run.Goals as goal
 
 some_length : {X : Type 0} (xs : List X) → ¬ (xs ≡ []) → 0 < length xs
 some_length [] h = absurd (h refl)
@@ -19,17 +19,16 @@ pub returns-then-is_empty-clause-answer : goal.returns-then-is_empty-clause-answ
 returns-then-is_empty-clause-answer c =
     let solving = solving_goes_on c.args.formula.now c.loop-steps.search c.propagate.new.self c.loop-steps.steps c.loop-steps.invariant.solving
     c.in_ok-conflict.ensures.search c.in_ok-conflict.ensures.goes_on c.in_ok-conflict.ensures.started in
-    let ex = c.in_ok-explained.ensures in
-    let hints : c.in_ok-hints.hints ≡ reverse c.in_ok-explained.explained.hints = c.in_ok-hints.ensures ∙ ap (λ (ns : List ℕ). reverse ns) c.as_slice.ensures in
-    is_refuted c.args.formula.now c.propagate.new.self c.loop-steps.steps solving c.in_ok-explained.explained ex c.args.budget (record { clause = c.in_ok-explained.explained.clause; hints = c.in_ok-hints.hints }) c.push.new.self refl hints (c.if-is_empty.ensures.0 refl) c.loop-steps.invariant.few c.in_ok-push.ensures.ok
+    let ex = c.in_ok-learnt.ensures.shown in
+    is_refuted c.args.formula.now c.propagate.new.self c.loop-steps.steps solving c.in_ok-learnt.learnt ex c.args.budget c.in_ok-learnt.learnt.step c.push.new.self refl refl (c.if-is_empty.ensures.0 refl) c.loop-steps.invariant.few c.in_ok-push.ensures.ok
 
 pub returns-then-len-budget-clause-answer : goal.returns-then-len-budget-clause-answer
 returns-then-len-budget-clause-answer c =
     let solving = solving_goes_on c.args.formula.now c.loop-steps.search c.propagate.new.self c.loop-steps.steps c.loop-steps.invariant.solving
     c.in_ok-conflict.ensures.search c.in_ok-conflict.ensures.goes_on c.in_ok-conflict.ensures.started in
-    let ex = c.in_ok-explained.ensures in
-    let some = some_length c.in_ok-explained.explained.clause (λ e. false_true (c.if-is_empty.ensures.1 e)) in
-    is_spent c.args.formula.now c.propagate.new.self c.loop-steps.steps solving c.in_ok-explained.explained ex some c.args.budget (sym c.len.ensures ∙ c.if-len-budget.true)
+    let ex = c.in_ok-learnt.ensures.shown in
+    let some = some_length c.in_ok-learnt.learnt.step.clause (λ e. false_true (c.if-is_empty.ensures.1 e)) in
+    is_spent c.args.formula.now c.propagate.new.self c.loop-steps.steps solving c.in_ok-learnt.learnt ex some c.args.budget (sym c.len.ensures ∙ c.if-len-budget.true)
 
 pub returns-then-len-budget-clause-decided : goal.returns-then-len-budget-clause-decided
 returns-then-len-budget-clause-decided c =
@@ -39,48 +38,50 @@ pub backtrack-requires-clause-decided : goal.backtrack-requires-clause-decided
 backtrack-requires-clause-decided c =
     let solving = solving_goes_on c.args.formula.now c.loop-steps.search c.propagate.new.self c.loop-steps.steps c.loop-steps.invariant.solving
     c.in_ok-conflict.ensures.search c.in_ok-conflict.ensures.goes_on c.in_ok-conflict.ensures.started in
-    let ex = c.in_ok-explained.ensures in
-    let some = some_length c.in_ok-explained.explained.clause (λ e. false_true (c.if-is_empty.ensures.1 e)) in
-    back_decided c.args.formula.now c.propagate.new.self c.loop-steps.steps solving c.in_ok-explained.explained ex some
+    let ex = c.in_ok-learnt.ensures.shown in
+    let some = some_length c.in_ok-learnt.learnt.step.clause (λ e. false_true (c.if-is_empty.ensures.1 e)) in
+    back_decided c.args.formula.now c.propagate.new.self c.loop-steps.steps solving c.in_ok-learnt.learnt ex some
 
 pub backtrack-requires-clause-started : goal.backtrack-requires-clause-started
 backtrack-requires-clause-started c =
     let solving = solving_goes_on c.args.formula.now c.loop-steps.search c.propagate.new.self c.loop-steps.steps c.loop-steps.invariant.solving
     c.in_ok-conflict.ensures.search c.in_ok-conflict.ensures.goes_on c.in_ok-conflict.ensures.started in
-    let ex = c.in_ok-explained.ensures in
-    let some = some_length c.in_ok-explained.explained.clause (λ e. false_true (c.if-is_empty.ensures.1 e)) in
-    is_started c.args.formula.now c.propagate.new.self c.loop-steps.steps solving c.in_ok-explained.explained ex some
+    let ex = c.in_ok-learnt.ensures.shown in
+    let some = some_length c.in_ok-learnt.learnt.step.clause (λ e. false_true (c.if-is_empty.ensures.1 e)) in
+    is_started c.args.formula.now c.propagate.new.self c.loop-steps.steps solving c.in_ok-learnt.learnt ex some
 
 pub learn-requires-clause-settled : goal.learn-requires-clause-settled
 learn-requires-clause-settled c =
     let solving = solving_goes_on c.args.formula.now c.loop-steps.search c.propagate.new.self c.loop-steps.steps c.loop-steps.invariant.solving
     c.in_ok-conflict.ensures.search c.in_ok-conflict.ensures.goes_on c.in_ok-conflict.ensures.started in
-    let ex = c.in_ok-explained.ensures in
-    let some = some_length c.in_ok-explained.explained.clause (λ e. false_true (c.if-is_empty.ensures.1 e)) in
-    subst IsSettled (sym c.backtrack.ensures.state) (back_settled c.args.formula.now c.propagate.new.self c.loop-steps.steps solving c.in_ok-explained.explained ex some)
+    let ex = c.in_ok-learnt.ensures.shown in
+    let some = some_length c.in_ok-learnt.learnt.step.clause (λ e. false_true (c.if-is_empty.ensures.1 e)) in
+    subst IsSettled (sym c.backtrack.ensures.state) (back_settled c.args.formula.now c.propagate.new.self c.loop-steps.steps solving c.in_ok-learnt.learnt ex some)
 
 pub learn-requires-clause-asserting : goal.learn-requires-clause-asserting
 learn-requires-clause-asserting c =
     let solving = solving_goes_on c.args.formula.now c.loop-steps.search c.propagate.new.self c.loop-steps.steps c.loop-steps.invariant.solving
     c.in_ok-conflict.ensures.search c.in_ok-conflict.ensures.goes_on c.in_ok-conflict.ensures.started in
-    let ex = c.in_ok-explained.ensures in
-    let some = some_length c.in_ok-explained.explained.clause (λ e. false_true (c.if-is_empty.ensures.1 e)) in
-    subst (λ (s : Searched). IsAsserting s c.as_slice-in-Some.result.now) (sym c.backtrack.ensures.state)
-    (subst (λ (ls : List ℤ). IsAsserting (record c.propagate.new.self { trail = take c.in_ok-explained.explained.back c.propagate.new.self.trail; followed = c.in_ok-explained.explained.back }) ls) (sym c.as_slice-in-Some.ensures) (back_asserting c.args.formula.now c.propagate.new.self c.loop-steps.steps solving c.in_ok-explained.explained ex some))
+    let ex = c.in_ok-learnt.ensures.shown in
+    let some = some_length c.in_ok-learnt.learnt.step.clause (λ e. false_true (c.if-is_empty.ensures.1 e)) in
+    subst (λ (s : Searched). IsAsserting s c.as_slice.result.now) (sym c.backtrack.ensures.state)
+    (subst (λ (ls : List ℤ). IsAsserting (record c.propagate.new.self { trail = take c.in_ok-learnt.learnt.back c.propagate.new.self.trail; followed = c.in_ok-learnt.learnt.back }) ls) (sym c.as_slice.ensures) (back_asserting c.args.formula.now c.propagate.new.self c.loop-steps.steps solving c.in_ok-learnt.learnt ex some))
 
-pub loop-steps-preserved-in-Some : goal.loop-steps-preserved-in-Some
-loop-steps-preserved-in-Some c =
+pub loop-steps-preserved-in_ok-push-2 : goal.loop-steps-preserved-in_ok-push-2
+loop-steps-preserved-in_ok-push-2 c =
     let solving = solving_goes_on c.args.formula.now c.loop-steps.search c.propagate.new.self c.loop-steps.steps c.loop-steps.invariant.solving
     c.in_ok-conflict.ensures.search c.in_ok-conflict.ensures.goes_on c.in_ok-conflict.ensures.started in
-    let ex = c.in_ok-explained.ensures in
-    let hints : c.in_ok-hints.hints ≡ reverse c.in_ok-explained.explained.hints = c.in_ok-hints.ensures ∙ ap (λ (ns : List ℕ). reverse ns) c.as_slice.ensures in
-    let some = some_length c.in_ok-explained.explained.clause (λ e. false_true (c.if-is_empty.ensures.1 e)) in
-    let learnt = subst (λ (s : Searched). IsLearnt s c.in_ok-search-2.search c.in_ok-explained.explained.clause) c.backtrack.ensures.state
-    (subst (λ (ls : List ℤ). IsLearnt c.backtrack.new.self c.in_ok-search-2.search ls) c.as_slice-in-Some.ensures c.in_ok-search-2.ensures.learnt) in
+    let ex = c.in_ok-learnt.ensures.shown in
+    let some = some_length c.in_ok-learnt.learnt.step.clause (λ e. false_true (c.if-is_empty.ensures.1 e)) in
+    let learnt = subst (λ (s : Searched). IsLearnt s c.in_ok-search-2.search c.in_ok-learnt.learnt.step.clause) c.backtrack.ensures.state
+    (subst (λ (ls : List ℤ). IsLearnt c.backtrack.new.self c.in_ok-search-2.search ls) c.as_slice.ensures c.in_ok-search-2.ensures.learnt) in
     record {
-      solving = solving_learns c.args.formula.now c.propagate.new.self c.loop-steps.steps solving c.in_ok-explained.explained ex some c.in_ok-search-2.search (record { clause = c.in_ok-explained.explained.clause; hints = c.in_ok-hints.hints }) c.push-in-Some.new.self
-          c.in_ok-search-2.ensures.search learnt refl hints c.in_ok-push-2.ensures.ok;
-      few = omega (arith, c.if-len-budget.false, c.len.ensures, c.loop-steps.invariant.few, ap length c.in_ok-push-2.ensures.ok, length_push c.loop-steps.steps (record { clause = c.in_ok-explained.explained.clause; hints = c.in_ok-hints.hints }));
+      solving = solving_learns c.args.formula.now c.propagate.new.self c.loop-steps.steps solving c.in_ok-learnt.learnt ex some c.in_ok-search-2.search c.in_ok-learnt.learnt.step c.push-in-Some.new.self
+          c.in_ok-search-2.ensures.search learnt refl refl c.in_ok-push-2.ensures.ok;
+      variables = c.in_ok-learnt.ensures.variables ∙ solving.variables;
+      clear = c.in_ok-learnt.ensures.clear;
+      size = c.in_ok-learnt.ensures.size ∙ ap (λ (n : ℕ). n + 1) solving.variables;
+      few = omega (arith, c.if-len-budget.false, c.len.ensures, c.loop-steps.invariant.few, ap length c.in_ok-push-2.ensures.ok, length_push c.loop-steps.steps c.in_ok-learnt.learnt.step);
     }
 
 pub loop-steps-smaller : goal.loop-steps-smaller
@@ -101,12 +102,15 @@ loop-steps-preserved c =
     record {
       solving = solving_decides c.args.formula.now c.propagate.new.self c.assume.new.self c.loop-steps.steps _ solving c.in_ok-assume.ensures.search c.in_ok-assume.ensures.ok settled.started;
       few = c.loop-steps.invariant.few;
+      variables = c.loop-steps.invariant.variables;
+      clear = c.loop-steps.invariant.clear;
+      size = c.loop-steps.invariant.size;
     }
 
-pub returns-in_default-unassigned-clause-answer : goal.returns-in_default-unassigned-clause-answer
-returns-in_default-unassigned-clause-answer c =
+pub returns-in_default-next-clause-answer : goal.returns-in_default-next-clause-answer
+returns-in_default-next-clause-answer c =
     let solving = solving_goes_on c.args.formula.now c.loop-steps.search c.propagate.new.self c.loop-steps.steps c.loop-steps.invariant.solving
     c.in_ok-conflict.ensures.search c.in_ok-conflict.ensures.goes_on c.in_ok-conflict.ensures.started in
     let quiet = subst (λ (o : Option ℕ). IfNone o (IsComplete c.propagate.new.self.clauses (Contains (taken c.propagate.new.self)))) c.in_default.is c.in_ok-conflict.ensures.quiet in
-    is_model c.args.formula.now c.propagate.new.self c.loop-steps.steps c.in_ok-assignment.field-0.items solving quiet c.in_default-unassigned.ensures.none
+    is_model c.args.formula.now c.propagate.new.self c.loop-steps.steps c.in_ok-assignment.field-0.items solving quiet c.in_default-next.ensures.none
     c.in_ok-assignment.ensures.count c.in_ok-assignment.ensures.values
