@@ -1,0 +1,10 @@
+pub mod Pieces
+pub mod Ranges
+pub mod Refuted
+pub mod Induction
+pub mod Shortest
+pub mod Staying
+pub mod Counts
+pub mod Reaching
+pub mod PartLogs
+pub mod Answering
