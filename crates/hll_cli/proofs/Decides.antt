@@ -6,7 +6,7 @@ use Rattle.std.proofs.lemmas.List.{length-map, take_more}
 use Rattle.std.proofs.Math.ListN.{get_or-map}
 use Rattle.hll_tree.specs.declared.tree.Expr.{Expr}
 use Rattle.hll_tree.specs.declared.tree.HllModel.{HllModel}
-use Rattle.hll_tree.specs.Meaning.{variables, value_in, value_at, instant_at, last_time, Holds, IsShortest}
+use Rattle.hll_tree.specs.Meaning.{variables, constraints, value_in, value_at, instant_at, last_time, Holds, IsShortest}
 use Rattle.hll_cli.specs.declared.verdict.Verdict.{Verdict}
 use Rattle.hll_cli.specs.Report.{IsRight, AreRight}
 use Rattle.hll_cli.specs.Table.{row, IsColumn}
@@ -47,13 +47,13 @@ true_holds m ns e column names is all = λ h some run meets.
     ∙ sym (is.each r.0 inside) ∙ all r.0 (omega arith)
 
 -- a row at which it is false is a shortest run that breaks it
-pub false_breaks : (m : HllModel) (ns : List (List ℕ)) (e : Expr) (column : List Bool) (k : ℕ) → variables m ≡ ns → IsColumn ns e column →
+pub false_breaks : (m : HllModel) (ns : List (List ℕ)) (e : Expr) (column : List Bool) (k : ℕ) → variables m ≡ ns → constraints m ≡ [] → IsColumn ns e column →
     k < length column → get_or column k false ≡ false → IsShortest m e (row (length ns) k ∷ [])
-false_breaks m ns e column k names is within at = record {
+false_breaks m ns e column k names none is within at = record {
   breaks = record {
     some = omega arith;
     run = (length-row (length ns) k ∙ ap length (sym names), tt);
-    meets = λ t h. tt;
+    meets = λ t h. rw none tt;
     broken = let whole = is.whole in ap (λ vs. value_in (value_at vs (row (length ns) k)) e) names ∙ sym (is.each k (omega arith)) ∙ at;
   };
   least = λ other breaks. breaks.some;

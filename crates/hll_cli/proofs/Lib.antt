@@ -4,5 +4,8 @@ pub mod Decisions
 pub mod Distinct
 pub mod Printed
 pub mod Rows
-pub mod Undecided
-pub mod CommandLine
+pub mod Unanswered
+pub mod Booleans
+pub mod MistakeLemmas
+pub mod Refusals
+pub mod Completeness

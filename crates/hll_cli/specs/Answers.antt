@@ -3,9 +3,10 @@ use Rattle.std.specs.Prelude.{◌≡◌, ℕ, ◌<◌, List, ◌++◌, length, t
 use Rattle.hll_cli.specs.declared.answer.Status.{Status}
 use Rattle.hll_cli.specs.declared.answer.Status.TheVariants.{Done, Falsified, Refused, Usage, ReadFault, WriteFault, Memory}
 use Rattle.hll_cli.specs.Lines.{usage_line}
+use Rattle.hll_cli.specs.Format.{IsFormatAnswer}
 use Rattle.hll_cli.specs.Prove.{IsProveAnswer}
 use Rattle.hll_cli.specs.Reading.{DeskView}
-use Rattle.hll_cli.specs.Words.{Request, Prove}
+use Rattle.command_line.specs.Words.{Request, Prove, Format}
 
 -- the exit status as a number
 abbrev pub code_of : Status → ℕ
@@ -17,17 +18,23 @@ code_of ReadFault = 5
 code_of WriteFault = 6
 code_of Memory = 7
 
--- the numbers that an exit status may be
-abbrev pub IsStatus : ℕ → Type 0
-IsStatus n = (n ≡ 0) ⊎ (n ≡ 1) ⊎ (n ≡ 3) ⊎ (n ≡ 4) ⊎ (n ≡ 5) ⊎ (n ≡ 6) ⊎ (n ≡ 7)
-
 -- the exit statuses of a report, and that of want of memory
 abbrev pub IsReported : ℕ → Type 0
 IsReported n = (n ≡ 0) ⊎ (n ≡ 1) ⊎ (n ≡ 7)
 
+-- the exit status of a command that is done, and that of want of memory
+abbrev pub IsDone : ℕ → Type 0
+IsDone n = (n ≡ 0) ⊎ (n ≡ 7)
+
 -- the exit statuses of wrong words
 abbrev pub IsUsageStatus : ℕ → Type 0
 IsUsageStatus n = (n ≡ 4) ⊎ (n ≡ 6) ⊎ (n ≡ 7)
+
+-- the numbers that an exit status may be, by what is asked
+abbrev pub IsStatus : Option Request → ℕ → Type 0
+IsStatus None n = IsUsageStatus n
+IsStatus (Some (Prove name)) n = (n ≡ 0) ⊎ (n ≡ 1) ⊎ (n ≡ 3) ⊎ (n ≡ 5) ⊎ (n ≡ 6) ⊎ (n ≡ 7)
+IsStatus (Some (Format name)) n = (n ≡ 0) ⊎ (n ≡ 3) ⊎ (n ≡ 5) ⊎ (n ≡ 6) ⊎ (n ≡ 7)
 
 -- wrong words have the line on how the program is called
 abbrev pub IsUsageAnswer : Status → List ℕ → Type 0
@@ -43,6 +50,7 @@ IsUsageAnswer Memory output = ⊥
 abbrev pub IsAnswer : Option Request → DeskView → Status → List ℕ → Type 0
 IsAnswer None view status output = IsUsageAnswer status output
 IsAnswer (Some (Prove name)) view status output = IsProveAnswer view name status output
+IsAnswer (Some (Format name)) view status output = IsFormatAnswer view name status output
 
 -- there is something to be written with this status, where it is one of an answer
 abbrev pub HasAnswer : (Status → List ℕ → Type 0) → Status → Type 0

@@ -1,10 +1,11 @@
 pub mod Accepted
 pub mod Answers
 pub mod Faults
+pub mod Format
 pub mod Lines
+pub mod Mistakes
 pub mod Prove
 pub mod Reading
 pub mod Report
-pub mod Requests
 pub mod Table
-pub mod Words
+pub mod Texts

@@ -3,7 +3,9 @@ use Rattle.std.specs.Prelude.{ℕ, Bool, true, false, List, [], ◌∷◌, ◌++
 use Rattle.std.specs.Fmt.{decimal}
 use Rattle.hll_lexer.specs.declared.places.LineColumn.{LineColumn}
 use Rattle.hll_cli.specs.declared.fault.Refusal.{Refusal}
-use Rattle.hll_cli.specs.declared.fault.Refusal.TheVariants.{Unread, Long, Unbuilt}
+use Rattle.hll_cli.specs.declared.fault.Refusal.TheVariants.{Unread, Long, Misplaced, Unbuilt}
+use Rattle.hll_cli.specs.declared.fault.Mistake.{Mistake}
+use Rattle.hll_cli.specs.declared.fault.Mistake.TheVariants.{Stray, Unclosed, Number, Unexpected, Deep}
 
 -- the end of a line
 abbrev pub line_feed : List ℕ
@@ -29,10 +31,19 @@ totals_text proved falsified undecided =
 
 -- the line on how the program is called
 abbrev pub usage_line : List ℕ
-usage_line = codes "usage: hll prove MODEL" ++ line_feed
+usage_line = codes "usage: hll prove MODEL | hll format MODEL" ++ line_feed
+
+-- the word for a mistake
+abbrev pub mistake_text : Mistake → List ℕ
+mistake_text Stray = codes "Stray"
+mistake_text Unclosed = codes "Unclosed"
+mistake_text Number = codes "Number"
+mistake_text Unexpected = codes "Unexpected"
+mistake_text Deep = codes "Deep"
 
 -- the line on why the file of this name has no answer of its own
 abbrev pub refusal_line : List ℕ → Refusal → List ℕ
 refusal_line name Unread = codes "refused read " ++ name ++ line_feed
 refusal_line name Long = codes "refused Long" ++ line_feed
+refusal_line name (Misplaced mistake place) = codes "refused " ++ mistake_text mistake ++ codes " at " ++ place_text place ++ line_feed
 refusal_line name Unbuilt = codes "refused Unbuilt" ++ line_feed

@@ -1,12 +1,14 @@
 //! What the program answers: its exit status and its output.
 
-ghost use Rattle.std.specs.Prelude.{◌≡◌, IfOk};
+ghost use Rattle.std.specs.Prelude.{◌≡◌, ◌++◌, codes, IfOk};
 ghost use Rattle.hll_cli.specs.Answers.{code_of};
 ghost use Rattle.hll_cli.specs.Faults.{status_of};
-ghost use Rattle.hll_cli.specs.Lines.{usage_line, refusal_line};
+ghost use Rattle.hll_cli.specs.Lines.{usage_line, refusal_line, mistake_text as text_of_mistake, place_text, line_feed};
 ghost use Rattle.hll_cli.specs.declared.answer.Status.TheVariants as status;
 
-use crate::fault::Refusal;
+use crate::fault::{Mistake, Refusal};
+use crate::line::Printed;
+use hll_lexer::LineColumn;
 use std::alloc::{AllocError, Global};
 
 /// How the program ends. The exit status is the number.
@@ -41,7 +43,7 @@ impl Status {
     {
         match refusal {
             Refusal::Unread => Status::ReadFault,
-            Refusal::Long | Refusal::Unbuilt => Status::Refused,
+            Refusal::Long | Refusal::Misplaced(_, _) | Refusal::Unbuilt => Status::Refused,
         }
     }
 }
@@ -60,7 +62,7 @@ impl Answer {
     {
         Ok(Answer {
             status: Status::Usage,
-            output: Vec::from_slice(alloc, b"usage: hll prove MODEL\n")?,
+            output: Vec::from_slice(alloc, b"usage: hll prove MODEL | hll format MODEL\n")?,
         })
     }
 
@@ -75,6 +77,32 @@ impl Answer {
     }
 }
 
+/// The word for a mistake.
+fn mistake_text(mistake: Mistake) -> &'static str
+    ensures { result.now ≡ text_of_mistake mistake }
+{
+    match mistake {
+        Mistake::Stray => "Stray",
+        Mistake::Unclosed => "Unclosed",
+        Mistake::Number => "Number",
+        Mistake::Unexpected => "Unexpected",
+        Mistake::Deep => "Deep",
+    }
+}
+
+/// The line on the first mistake of a text.
+fn misplaced_line(alloc: Global, mistake: Mistake, place: LineColumn) -> Result<Vec<u8>, AllocError>
+    ensures { IfOk result (λ line. line.items
+        ≡ codes "refused " ++ text_of_mistake mistake ++ codes " at " ++ place_text place ++ line_feed) }
+{
+    let mut line = Vec::from_slice(alloc, b"refused ")?;
+    line.extend_from_slice(mistake_text(mistake).as_bytes())?;
+    line.extend_from_slice(b" at ")?;
+    place.print(&mut line)?;
+    line.extend_from_slice(b"\n")?;
+    Ok(line)
+}
+
 /// The line on why a file has no answer of its own.
 fn refusal_line(alloc: Global, name: &str, refusal: Refusal) -> Result<Vec<u8>, AllocError>
     ensures { IfOk result (λ line. line.items ≡ refusal_line name.now refusal) }
@@ -87,6 +115,7 @@ fn refusal_line(alloc: Global, name: &str, refusal: Refusal) -> Result<Vec<u8>, 
             Ok(line)
         }
         Refusal::Long => Vec::from_slice(alloc, b"refused Long\n"),
+        Refusal::Misplaced(mistake, place) => misplaced_line(alloc, mistake, place),
         Refusal::Unbuilt => Vec::from_slice(alloc, b"refused Unbuilt\n"),
     }
 }

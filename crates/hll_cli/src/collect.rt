@@ -23,12 +23,20 @@ fn push_names<'a>(names: &mut Vec<&'a [u8]>, decl: &'a Decl) -> Result<(), Alloc
 fn push_inputs<'a>(names: &mut Vec<&'a [u8]>, section: &'a Section) -> Result<(), AllocError>
     ensures { OnOk result (map (λ n. n.now) names.new.items ≡ map (λ n. n.now) names.old.items ++ variables_in section.now) }
 {
-    if let Section::Inputs(decls) = section {
-        for decl in decls.as_slice() {
-            push_names(names, decl)?;
+    match section {
+        Section::Inputs(decls) => {
+            for decl in decls.as_slice() {
+                push_names(names, decl)?;
+            }
+            Ok(())
         }
+        Section::Constants(_)
+        | Section::Types(_)
+        | Section::Declarations(_)
+        | Section::Definitions(_)
+        | Section::Constraints(_)
+        | Section::Obligations(_) => Ok(()),
     }
-    Ok(())
 }
 
 /// The names of the inputs, in text order.
@@ -49,12 +57,20 @@ fn push_obligations<'a>(
 ) -> Result<(), AllocError>
     ensures { OnOk result (map (λ e. e.now) obligations.new.items ≡ map (λ e. e.now) obligations.old.items ++ obligations_in section.now) }
 {
-    if let Section::Obligations(expressions) = section {
-        for expression in expressions.as_slice() {
-            obligations.push(expression)?;
+    match section {
+        Section::Obligations(expressions) => {
+            for expression in expressions.as_slice() {
+                obligations.push(expression)?;
+            }
+            Ok(())
         }
+        Section::Constants(_)
+        | Section::Types(_)
+        | Section::Inputs(_)
+        | Section::Declarations(_)
+        | Section::Definitions(_)
+        | Section::Constraints(_) => Ok(()),
     }
-    Ok(())
 }
 
 /// The obligations, in text order.

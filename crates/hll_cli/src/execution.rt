@@ -1,19 +1,22 @@
 //! The top call: it does all that the program does.
 
 ghost use Rattle.std.specs.Prelude.{◌≡◌, ℕ, List, ◌⊎◌, map, string_bytes, Some, None, IfSome, IfOk, true, false};
+ghost use Rattle.command_line.specs.Words.{Request, Prove, Format, request_of, model_of};
 ghost use Rattle.ports.specs.Causes.{Rose, SameCounts};
 ghost use Rattle.ports.specs.Contents.{Tells, SameFiles};
-ghost use Rattle.hll_cli.specs.Answers.{IsAnswer, HasAnswer, Writes, WritesFront, Ends, IsStatus, IsReported, IsUsageStatus};
+ghost use Rattle.hll_cli.specs.Answers.{IsAnswer, HasAnswer, Writes, WritesFront, Ends, IsStatus, IsReported, IsDone};
+ghost use Rattle.hll_cli.specs.Format.{IsFormatted, HasModel};
 ghost use Rattle.hll_cli.specs.Lines.{usage_line, refusal_line};
-ghost use Rattle.hll_cli.specs.Prove.{IsDecided, IsRefused, HasAccepted};
+ghost use Rattle.hll_cli.specs.Prove.{IsDecided, IsTextRefusal, HasAcceptedModel};
 ghost use Rattle.hll_cli.specs.Reading.{view_of, ReadsNothing, ReadsOnly};
-ghost use Rattle.hll_cli.specs.Words.{request_of, Prove};
+ghost use Rattle.hll_cli.specs.Texts.{IsMisspelled, IsRefused, HasText};
 ghost use Rattle.hll_cli.specs.declared.answer.Status.TheVariants as status;
 ghost use Rattle.hll_cli.specs.declared.fault.Refusal.TheVariants as refusal;
 
 use crate::answer::{Answer, Status};
+use crate::format::format;
 use crate::prove::prove;
-use crate::words::Command;
+use command_line::Command;
 use ports::{Desk, Gate, PortFault, Sink, write_all};
 use std::alloc::{AllocError, Global};
 use std::thread::Threads;
@@ -26,12 +29,13 @@ fn answer_to<D: Desk>(alloc: Global, words: &[String], desk: &mut D) -> Result<A
     ensures idle { let view = view_of (D.told desk.old) (D.read_faults desk.old) (D.read_faults desk.new) (D.given desk.old) (D.given desk.new) in
         request_of (map string_bytes words.now) ≡ None → ReadsNothing view }
     ensures others { let view = view_of (D.told desk.old) (D.read_faults desk.old) (D.read_faults desk.new) (D.given desk.old) (D.given desk.new) in
-        (name : List ℕ) → request_of (map string_bytes words.now) ≡ Some (Prove name) → ReadsOnly name view }
+        (r : Request) → request_of (map string_bytes words.now) ≡ Some r → ReadsOnly (model_of r) view }
     ensures writes { SameCounts (D.write_faults desk.old) (D.write_faults desk.new) }
 {
-    match Command::read(words) {
+    match Command::read(alloc, words)? {
         None => Answer::usage(alloc),
         Some(Command::Prove { model }) => prove(alloc, desk, model),
+        Some(Command::Format { model }) => format(alloc, desk, model),
     }
 }
 
@@ -46,7 +50,7 @@ fn execute<D: Desk, O: Sink>(alloc: Global, words: &[String], desk: &mut D, out:
     ensures idle { let view = view_of (D.told desk.old) (D.read_faults desk.old) (D.read_faults desk.new) (D.given desk.old) (D.given desk.new) in
         request_of (map string_bytes words.now) ≡ None → ReadsNothing view }
     ensures others { let view = view_of (D.told desk.old) (D.read_faults desk.old) (D.read_faults desk.new) (D.given desk.old) (D.given desk.new) in
-        (name : List ℕ) → request_of (map string_bytes words.now) ≡ Some (Prove name) → ReadsOnly name view }
+        (r : Request) → request_of (map string_bytes words.now) ≡ Some r → ReadsOnly (model_of r) view }
     ensures writes { SameCounts (D.write_faults desk.old) (D.write_faults desk.new) }
 {
     match answer_to(alloc, words, desk) {
@@ -69,11 +73,11 @@ pub fn run<R: Threads + Sync, D: Desk, O: Sink, G: Gate + Sync>(
     out: &mut O,
     _gate: &G,
 ) -> u8
-    ensures known { IsStatus result }
+    // Each command has its statuses, and so have words that ask for nothing.
+    ensures known { IsStatus (request_of (map string_bytes words.now)) result }
 
     // Words that ask for nothing.
     ensures words { result ≡ 4 → request_of (map string_bytes words.now) ≡ None }
-    ensures wrong_words { request_of (map string_bytes words.now) ≡ None → IsUsageStatus result }
     ensures usage { result ≡ 4 → Tells (O.told out.old) (O.told out.new) (Writes (λ output. output ≡ usage_line)) }
     ensures idle { request_of (map string_bytes words.now) ≡ None → ReadsNothing (view_of (D.told desk.old) (D.read_faults desk.old) (D.read_faults desk.new) (D.given desk.old) (D.given desk.new)) }
 
@@ -84,16 +88,29 @@ pub fn run<R: Threads + Sync, D: Desk, O: Sink, G: Gate + Sync>(
     ensures falsified { (name : List ℕ) → request_of (map string_bytes words.now) ≡ Some (Prove name) → result ≡ 1
         → Tells (O.told out.old) (O.told out.new) (Writes (IsDecided (view_of (D.told desk.old) (D.read_faults desk.old) (D.read_faults desk.new) (D.given desk.old) (D.given desk.new)) name true)) }
     ensures refused { (name : List ℕ) → request_of (map string_bytes words.now) ≡ Some (Prove name) → result ≡ 3
-        → Tells (O.told out.old) (O.told out.new) (Writes (IsRefused (view_of (D.told desk.old) (D.read_faults desk.old) (D.read_faults desk.new) (D.given desk.old) (D.given desk.new)) name status.Refused)) }
-    ensures unread { (name : List ℕ) → request_of (map string_bytes words.now) ≡ Some (Prove name) → result ≡ 5
-        → Tells (O.told out.old) (O.told out.new) (Writes (λ output. output ≡ refusal_line name refusal.Unread)) }
-    ensures unread_cause { (name : List ℕ) → request_of (map string_bytes words.now) ≡ Some (Prove name) → result ≡ 5
-        → Rose (D.read_faults desk.old name) (D.read_faults desk.new name) }
+        → Tells (O.told out.old) (O.told out.new) (Writes (IsRefused IsTextRefusal (view_of (D.told desk.old) (D.read_faults desk.old) (D.read_faults desk.new) (D.given desk.old) (D.given desk.new)) name status.Refused)) }
     // A text that is accepted gets its report, unless the model's file or the output fails, or memory runs out.
     ensures complete { (name : List ℕ) → request_of (map string_bytes words.now) ≡ Some (Prove name)
-        → IfSome (D.told desk.old) (λ files. HasAccepted files name → IsReported result
+        → IfSome (D.told desk.old) (λ files. HasText files name HasAcceptedModel → IsReported result
         ⊎ Rose (D.read_faults desk.old name) (D.read_faults desk.new name)
         ⊎ Rose (O.faults out.old) (O.faults out.new)) }
+
+    // `format`: the one layout of the model is printed, or the text is refused.
+    ensures formatted { (name : List ℕ) → request_of (map string_bytes words.now) ≡ Some (Format name) → result ≡ 0
+        → Tells (O.told out.old) (O.told out.new) (Writes (IsFormatted (view_of (D.told desk.old) (D.read_faults desk.old) (D.read_faults desk.new) (D.given desk.old) (D.given desk.new)) name)) }
+    ensures misspelled { (name : List ℕ) → request_of (map string_bytes words.now) ≡ Some (Format name) → result ≡ 3
+        → Tells (O.told out.old) (O.told out.new) (Writes (IsRefused IsMisspelled (view_of (D.told desk.old) (D.read_faults desk.old) (D.read_faults desk.new) (D.given desk.old) (D.given desk.new)) name status.Refused)) }
+    // A text that spells a model is printed, unless the model's file or the output fails, or memory runs out.
+    ensures format_complete { (name : List ℕ) → request_of (map string_bytes words.now) ≡ Some (Format name)
+        → IfSome (D.told desk.old) (λ files. HasText files name HasModel → IsDone result
+        ⊎ Rose (D.read_faults desk.old name) (D.read_faults desk.new name)
+        ⊎ Rose (O.faults out.old) (O.faults out.new)) }
+
+    // A model that could not be read.
+    ensures unread { (r : Request) → request_of (map string_bytes words.now) ≡ Some r → result ≡ 5
+        → Tells (O.told out.old) (O.told out.new) (Writes (λ output. output ≡ refusal_line (model_of r) refusal.Unread)) }
+    ensures unread_cause { (r : Request) → request_of (map string_bytes words.now) ≡ Some r → result ≡ 5
+        → Rose (D.read_faults desk.old (model_of r)) (D.read_faults desk.new (model_of r)) }
 
     // An output that breaks off is a front of what this call would have answered, and not all of it.
     ensures unwritten_cause { result ≡ 6 → Rose (O.faults out.old) (O.faults out.new) }
@@ -104,8 +121,8 @@ pub fn run<R: Threads + Sync, D: Desk, O: Sink, G: Gate + Sync>(
 
     // No file is changed, and no file is read but the model.
     ensures files { Tells (D.told desk.old) (D.told desk.new) SameFiles }
-    ensures other_reads { (name : List ℕ) → request_of (map string_bytes words.now) ≡ Some (Prove name)
-        → ReadsOnly name (view_of (D.told desk.old) (D.read_faults desk.old) (D.read_faults desk.new) (D.given desk.old) (D.given desk.new)) }
+    ensures other_reads { (r : Request) → request_of (map string_bytes words.now) ≡ Some r
+        → ReadsOnly (model_of r) (view_of (D.told desk.old) (D.read_faults desk.old) (D.read_faults desk.new) (D.given desk.old) (D.given desk.new)) }
     ensures writes { SameCounts (D.write_faults desk.old) (D.write_faults desk.new) }
 {
     execute(alloc, words, desk, out).code()

@@ -1,14 +1,28 @@
 //! Why a command has no answer of its own.
 
 ghost use Rattle.std.specs.Prelude.{◌≡◌};
-ghost use Rattle.hll_cli.specs.Faults.{fault_of_read, fault_of_tokens, fault_of_syntax};
+ghost use Rattle.hll_cli.specs.Faults.{fault_of_read};
 ghost use Rattle.hll_cli.specs.declared.fault.Fault.TheVariants as fault;
 
-use hll_grammar::SyntaxFault;
-use hll_lexer::LexFault;
+use hll_lexer::LineColumn;
 use ports::ReadFault;
 use std::alloc::AllocError;
 use thiserror::Error;
+
+/// The first mistake of a text. Its name is printed.
+#[derive(Clone, Copy, Debug, PartialEq, Eq, Error)]
+pub enum Mistake {
+    #[error("no token, blank or comment begins here")]
+    Stray,
+    #[error("a comment or a name in quotes isn't closed")]
+    Unclosed,
+    #[error("the number is too great")]
+    Number,
+    #[error("no text goes on so")]
+    Unexpected,
+    #[error("too many levels are open")]
+    Deep,
+}
 
 /// What is wrong with a file that a command reads. It is printed.
 #[derive(Clone, Copy, Debug, PartialEq, Eq, Error)]
@@ -19,7 +33,10 @@ pub enum Refusal {
     /// The file has more bytes than a text may have.
     #[error("the file is too long")]
     Long,
-    /// The text isn't of the forms that are built.
+    /// The text isn't one of the language.
+    #[error("{0} at {1:?}")]
+    Misplaced(Mistake, LineColumn),
+    /// The text has a form that isn't built, or passes a limit.
     #[error("the text has a form that isn't built")]
     Unbuilt,
 }
@@ -41,28 +58,6 @@ impl From<ReadFault> for Fault {
             ReadFault::Failed => Fault::Refused(Refusal::Unread),
             ReadFault::Long => Fault::Refused(Refusal::Long),
             ReadFault::Memory => Fault::Memory,
-        }
-    }
-}
-
-impl From<LexFault> for Fault {
-    ghost from_gives = { λ lexing fault. fault ≡ fault_of_tokens lexing };
-
-    fn from(lexing: LexFault) -> Fault {
-        match lexing {
-            LexFault::Unbuilt => Fault::Refused(Refusal::Unbuilt),
-            LexFault::Memory => Fault::Memory,
-        }
-    }
-}
-
-impl From<SyntaxFault> for Fault {
-    ghost from_gives = { λ parsing fault. fault ≡ fault_of_syntax parsing };
-
-    fn from(parsing: SyntaxFault) -> Fault {
-        match parsing {
-            SyntaxFault::Unbuilt => Fault::Refused(Refusal::Unbuilt),
-            SyntaxFault::Memory => Fault::Memory,
         }
     }
 }

@@ -3,26 +3,25 @@
 ghost use Rattle.std.specs.Prelude.{◌≡◌, Err, IfOk};
 ghost use Rattle.ports.specs.Causes.{SameCounts};
 ghost use Rattle.ports.specs.Contents.{Tells, SameFiles};
-ghost use Rattle.hll_cli.specs.Prove.{IsDecided, IsUndecided, IsProveAnswer};
+ghost use Rattle.hll_cli.specs.Prove.{IsDecided, IsTextRefusal, IsProveAnswer};
 ghost use Rattle.hll_cli.specs.Reading.{view_of, ReadsOnly};
+ghost use Rattle.hll_cli.specs.Texts.{IsUnanswered};
 ghost use Rattle.hll_cli.specs.declared.fault.Refusal.{Refusal as TheRefusal};
 ghost use Rattle.hll_cli.specs.declared.fault.Fault.TheVariants as fault;
 
 use crate::answer::{Answer, Status};
 use crate::decision::{Decided, decide};
 use crate::fault::Fault;
+use crate::syntax::TEXT_LIMIT;
 use ports::{Desk, read_text};
 use std::alloc::{AllocError, Global};
-
-/// How many bytes a text has at most.
-const TEXT_LIMIT: u64 = 1 << 24;
 
 /// Reads the model and decides it.
 fn decide_file<D: Desk>(alloc: Global, desk: &mut D, name: &str) -> Result<Decided, Fault>
     ensures decided { let view = view_of (D.told desk.old) (D.read_faults desk.old) (D.read_faults desk.new) (D.given desk.old) (D.given desk.new) in
         IfOk result (λ d. IsDecided view name.now d.falsified d.output.items) }
     ensures refused { let view = view_of (D.told desk.old) (D.read_faults desk.old) (D.read_faults desk.new) (D.given desk.old) (D.given desk.new) in
-        (refusal : TheRefusal) → result ≡ Err (fault.Refused refusal) → IsUndecided view name.now refusal }
+        (refusal : TheRefusal) → result ≡ Err (fault.Refused refusal) → IsUnanswered IsTextRefusal view name.now refusal }
     ensures files { Tells (D.told desk.old) (D.told desk.new) SameFiles }
     ensures others { ReadsOnly name.now (view_of (D.told desk.old) (D.read_faults desk.old) (D.read_faults desk.new) (D.given desk.old) (D.given desk.new)) }
     ensures writes { SameCounts (D.write_faults desk.old) (D.write_faults desk.new) }

@@ -195,23 +195,31 @@ mod tests {
         Ok(instants)
     }
 
-    #[test]
-    fn prints_each_obligation(rt: HostRuntime) -> Result<(), Fail> {
-        let alloc = rt.alloc();
+    /// Three verdicts, the second of which has a trace.
+    fn three_verdicts(alloc: Global) -> Result<Items<Verdict>, AllocError>
+        ensures { IfOk result (λ verdicts. length verdicts ≡ 3) }
+    {
+        let mut verdicts = Items::new(alloc);
+        verdicts.push(Verdict::Proved(1))?;
+        verdicts.push(Verdict::Falsified(trace(alloc)?))?;
+        verdicts.push(Verdict::Proved(12))?;
+        Ok(verdicts)
+    }
+
+    /// The report on three obligations.
+    fn printed(alloc: Global, verdicts: &[Verdict]) -> Result<Vec<u8>, AllocError>
+        requires { length verdicts.now ≡ 3 }
+    {
         let names: [&[u8]; 2] = [b"p", b"go"];
         let (first, second, third) = (obligation(2), obligation(8), obligation(4));
-        let verdicts = [
-            Verdict::Proved(1),
-            Verdict::Falsified(trace(alloc)?),
-            Verdict::Proved(12),
-        ];
-        let printed = report(
-            alloc,
-            b"a b\nc\n\nde\n",
-            &names,
-            &[&first, &second, &third],
-            &verdicts,
-        )?;
+        let obligations = [&first, &second, &third];
+        report(alloc, b"a b\nc\n\nde\n", &names, &obligations, verdicts)
+    }
+
+    #[test]
+    fn prints_each_obligation(rt: HostRuntime) -> Result<(), Fail> {
+        let verdicts = three_verdicts(rt.alloc())?;
+        let printed = printed(rt.alloc(), verdicts.as_slice())?;
         assert_eq!(rt;
             printed.as_slice(),
             b"obligation 1 at 1:3: proved 1\n\
@@ -222,8 +230,13 @@ mod tests {
               proved 2 falsified 1 undecided 0\n"
                 .as_slice()
         );
-        assert!(rt; any_falsified(&verdicts));
-        let none = report(alloc, b"", &names, &[], &[])?;
+        assert!(rt; any_falsified(verdicts.as_slice()));
+        Ok(())
+    }
+
+    #[test]
+    fn prints_the_counts_of_no_obligation(rt: HostRuntime) -> Result<(), Fail> {
+        let none = report(rt.alloc(), b"", &[], &[], &[])?;
         assert_eq!(rt;
             none.as_slice(),
             b"proved 0 falsified 0 undecided 0\n".as_slice()

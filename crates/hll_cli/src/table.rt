@@ -1,12 +1,13 @@
 //! Truth tables: the column of an expression has its value at each row of the inputs.
 
-ghost use Rattle.std.specs.Prelude.{◌≡◌, ℕ, ◌≤◌, ◌<◌, ◌^◌, List, ◌∷◌, length, map, Contains, IfSome, IfNone, OnSome, IfOk, Bool, false, not, ◌||◌};
+ghost use Rattle.std.specs.Prelude.{◌≡◌, ℕ, ◌≤◌, ◌<◌, ◌^◌, List, ◌∷◌, length, map, Contains, IfSome, IfNone, OnSome, IfOk, Bool, true, false, not, ◌||◌};
 ghost use Rattle.std.specs.List.{slice_index_or};
 ghost use Rattle.hll_tree.specs.declared.tree.Op.{Op};
-ghost use Rattle.hll_tree.specs.Meaning.{UsesOnly, value_at, chain_value};
+ghost use Rattle.hll_tree.specs.Meaning.{UsesOnly, value_at, chain_value, is_boolean_op as is_boolean_operator, is_boolean};
 ghost use Rattle.hll_cli.specs.Accepted.{input_limit};
 ghost use Rattle.hll_cli.specs.Table.{row, IsColumn};
 
+use crate::built::is_boolean_op;
 use hll_tree::{Expr, Form, Op};
 use std::alloc::{AllocError, Global};
 
@@ -74,6 +75,7 @@ fn negate(column: &mut [bool])
 /// A chain at one row, as far as it was read: whether an earlier premise is false, which makes it true
 /// whatever follows, and the value of what was read after that premise.
 fn take_link(op: Op, settled: bool, value: bool, next: bool) -> (bool, bool)
+    requires { is_boolean_operator op ≡ true }
     ensures { (links : List (Op × Bool)) →
         (result.0 || chain_value result.1 links) ≡ (settled || chain_value value ((op, next) ∷ links)) }
 {
@@ -81,11 +83,15 @@ fn take_link(op: Op, settled: bool, value: bool, next: bool) -> (bool, bool)
         Op::Implies => (settled || !value, next),
         Op::Or => (settled, value || next),
         Op::And => (settled, value && next),
+        Op::Same | Op::Differ | Op::Plus | Op::Less | Op::Times | Op::Over | Op::Rest => {
+            unreachable!()
+        }
     }
 }
 
 /// The same at each row.
 fn take_links(op: Op, settled: &mut [bool], value: &mut [bool], next: &[bool])
+    requires operator { is_boolean_operator op ≡ true }
     requires opens { length value.old ≡ length settled.old }
     requires nexts { length next.now ≡ length settled.old }
     ensures settled_length { length settled.new ≡ length settled.old }
@@ -114,12 +120,14 @@ fn or(column: &mut [bool], other: &[bool])
     }
 }
 
-/// The column of an expression over these inputs, if it uses no other names.
+/// The column of a Boolean expression over these inputs, if it uses no other names.
+#[tactic(auto, using(crate::proofs::Booleans::not_number, crate::proofs::Booleans::not_compare, crate::proofs::Booleans::not_minus, crate::proofs::Booleans::not_choice, crate::proofs::Booleans::not_group, crate::proofs::Booleans::not_quant, crate::proofs::Booleans::not_pre, crate::proofs::Booleans::not_least, crate::proofs::Booleans::not_greatest, crate::proofs::Booleans::not_size, crate::proofs::Booleans::not_starting, crate::proofs::Booleans::not_within))]
 pub fn column(alloc: Global, names: &[&[u8]], expr: &Expr) -> Result<Option<Vec<bool>>, AllocError>
     requires { length names.now ≤ input_limit }
     ensures column { IfOk result (λ found. IfSome found (λ c. IsColumn (map (λ n. n.now) names.now) expr.now c.items)) }
     ensures declared { IfOk result (λ found. OnSome found (UsesOnly (map (λ n. n.now) names.now) expr.now)) }
-    ensures unknown { IfOk result (λ found. IfNone found (UsesOnly (map (λ n. n.now) names.now) expr.now → ⊥)) }
+    ensures unknown { IfOk result (λ found. IfNone found
+        (is_boolean expr.now ≡ true → UsesOnly (map (λ n. n.now) names.now) expr.now → ⊥)) }
 {
     let rows = rows(names.len());
     match &expr.form {
@@ -141,6 +149,9 @@ pub fn column(alloc: Global, names: &[&[u8]], expr: &Expr) -> Result<Option<Vec<
             };
             let mut settled = constant(alloc, rows, false)?;
             for link in links.as_slice() {
+                if !is_boolean_op(link.op) {
+                    return Ok(None);
+                }
                 let Some(next) = column(alloc, names, &link.with)? else {
                     return Ok(None);
                 };
@@ -149,5 +160,17 @@ pub fn column(alloc: Global, names: &[&[u8]], expr: &Expr) -> Result<Option<Vec<
             or(&mut value, &settled);
             Ok(Some(value))
         }
+        Form::Number(_)
+        | Form::Compare(_, _, _)
+        | Form::Minus(_)
+        | Form::Choice(_, _)
+        | Form::Group(_)
+        | Form::Quant(_, _, _, _)
+        | Form::Pre(_, _)
+        | Form::Least(_)
+        | Form::Greatest(_)
+        | Form::Size(_)
+        | Form::Starting
+        | Form::Within(_, _) => Ok(None),
     }
 }

@@ -3,7 +3,7 @@
 ghost use Rattle.std.specs.Prelude.{◌≡◌, ℕ, ◌≤◌, ◌<◌, List, [], ◌∷◌, length, map, IfSome, IfNone, OnSome, IfOk, false, true};
 ghost use Rattle.std.specs.List.{slice_index_or, AllByRecursion};
 ghost use Rattle.hll_tree.specs.declared.tree.HllModel.{HllModel};
-ghost use Rattle.hll_tree.specs.Meaning.{variables, UsesOnly};
+ghost use Rattle.hll_tree.specs.Meaning.{variables, constraints, is_boolean, UsesOnly};
 ghost use Rattle.hll_cli.specs.Accepted.{input_limit};
 ghost use Rattle.hll_cli.specs.Report.{IsRight, AreRight};
 ghost use Rattle.hll_cli.specs.Table.{row};
@@ -60,9 +60,10 @@ fn verdict_on(
 ) -> Result<Option<Verdict>, AllocError>
     requires { length names.now ≤ input_limit }
     ensures right { IfOk result (λ found. IfSome found (λ v. (m : HllModel) →
-        variables m ≡ map (λ n. n.now) names.now → IsRight m obligation.now v)) }
+        variables m ≡ map (λ n. n.now) names.now → constraints m ≡ [] → IsRight m obligation.now v)) }
     ensures declared { IfOk result (λ found. OnSome found (UsesOnly (map (λ n. n.now) names.now) obligation.now)) }
-    ensures unknown { IfOk result (λ found. IfNone found (UsesOnly (map (λ n. n.now) names.now) obligation.now → ⊥)) }
+    ensures unknown { IfOk result (λ found. IfNone found
+        (is_boolean obligation.now ≡ true → UsesOnly (map (λ n. n.now) names.now) obligation.now → ⊥)) }
 {
     let Some(column) = column(alloc, names, obligation)? else {
         return Ok(None);
@@ -84,11 +85,11 @@ pub fn verdicts(
 ) -> Result<Option<Items<Verdict>>, AllocError>
     requires { length names.now ≤ input_limit }
     ensures right { IfOk result (λ found. IfSome found (λ vs. (m : HllModel) →
-        variables m ≡ map (λ n. n.now) names.now → AreRight m (map (λ e. e.now) obligations.now) vs)) }
+        variables m ≡ map (λ n. n.now) names.now → constraints m ≡ [] → AreRight m (map (λ e. e.now) obligations.now) vs)) }
     ensures declared { IfOk result (λ found. OnSome found
         (AllByRecursion (UsesOnly (map (λ n. n.now) names.now)) (map (λ e. e.now) obligations.now))) }
     ensures unknown { IfOk result (λ found. IfNone found
-        (AllByRecursion (UsesOnly (map (λ n. n.now) names.now)) (map (λ e. e.now) obligations.now) → ⊥)) }
+        (AllByRecursion (λ e. is_boolean e ≡ true) (map (λ e. e.now) obligations.now) → AllByRecursion (UsesOnly (map (λ n. n.now) names.now)) (map (λ e. e.now) obligations.now) → ⊥)) }
 {
     let mut verdicts = Items::new(alloc);
     for obligation in obligations {

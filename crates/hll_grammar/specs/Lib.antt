@@ -1,2 +1,8 @@
-pub mod Levels
-pub mod Sections
+pub mod Lookahead
+pub mod Operations
+pub mod Pieces
+pub mod Reading
+pub mod Repetition
+pub mod Signs
+pub mod Starts
+pub mod Unread

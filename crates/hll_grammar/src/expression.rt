@@ -1,222 +1,195 @@
-//! Expressions, by levels of precedence. Each function answers what it read and how many tokens it took.
+//! Expressions, by how tightly their operators bind. Only what opens a level recurses; a chain is a loop.
 
-ghost use Rattle.std.specs.Prelude.{◌≡◌, ◌≤◌, ℕ, List, ◌++◌, IsTrue, ◌↔◌, length, take, drop, slice_range, Bool, IfSome, IfNone, IfOk, Err};
-ghost use Rattle.hll_lexer.specs.declared.token.Token.{Token};
-ghost use Rattle.hll_tree.specs.declared.tree.Expr.{Expr};
-ghost use Rattle.hll_tree.specs.declared.tree.Link.{Link};
-ghost use Rattle.hll_tree.specs.Spells.{IsMark, IsUnary, IsExpression, IsName, IsTruth, EndedBy, mark_of as mark_of_lem};
-ghost use Rattle.hll_grammar.specs.Levels.{IsLevel, IsOperand, AreLinks, EndsAt, OperandEndsAt, AreWithin};
+ghost use Rattle.std.specs.Prelude.{◌≡◌, ◌≤◌};
+ghost use Rattle.hll_tree.specs.Spells.{Many, Listed, IsExpression, IsChoice, IsBranch, IsLink};
+ghost use Rattle.hll_grammar.specs.Lookahead.{after_expression, after_comparison, list_goes_on};
+ghost use Rattle.hll_grammar.specs.Operations.{IsTighter, IsChainOf, IsCompared, after_tighter, after_chain};
+ghost use Rattle.hll_grammar.specs.Pieces.{AreElifs, after_elifs};
+ghost use Rattle.hll_grammar.specs.Reading.{Reads};
 
+use crate::cursor::Cursor;
 use crate::fault::SyntaxFault;
-use hll_lexer::{Mark, Reserved, Token, TokenKind, Word};
-use hll_tree::{Expr, Form, Link, Name, Op};
-use sqlite_items::{Boxed, Items};
+use crate::nodes::{chain_node, choice_node, comparison_node};
+use crate::primary::operand;
+use crate::reading::push;
+use hll_lexer::{Mark, Reserved};
+use hll_tree::{Branch, Expr, Link, Precedence};
+use sqlite_items::Items;
 use std::alloc::Global;
 
-/// The mark of an operator.
-fn mark_of(op: Op) -> Mark
-    ensures { result ≡ mark_of_lem op }
+/// An expression, where so many more levels may be opened.
+#[cycle(expression)]
+pub fn expression(alloc: Global, cursor: &mut Cursor<'_>, room: u8) -> Result<Expr, SyntaxFault>
+    requires { room ≤ 200 }
+    ensures text { cursor.new.text ≡ cursor.old.text }
+    ensures reads { Reads IsExpression after_expression
+        cursor.old.text room cursor.old.rest cursor.new.rest result }
 {
-    match op {
-        Op::Implies => Mark::Implies,
-        Op::Or => Mark::Or,
-        Op::And => Mark::And,
-    }
-}
-
-/// Whether the token is this mark.
-pub fn is_mark(token: &Token, mark: Mark) -> bool
-    ensures { IsTrue result ↔ IsMark mark token.now }
-{
-    token.kind == TokenKind::Mark(mark)
-}
-
-/// Whether the token is a name.
-pub fn is_name(token: &Token) -> bool
-    ensures { IsTrue result ↔ (token.now.kind ≡ TokenKind.Name) }
-{
-    token.kind == TokenKind::Name
-}
-
-/// The truth value that a word stands for.
-fn truth_of(token: &Token) -> Option<bool>
-    ensures value { IfSome result (λ value. IsTruth value token.now) }
-    ensures none { IfNone result ((value : Bool) → IsTruth value token.now → ⊥) }
-{
-    if token.kind == TokenKind::Reserved(Reserved::True) {
-        Some(true)
-    } else if token.kind == TokenKind::Reserved(Reserved::False) {
-        Some(false)
+    if cursor.sees_word(Reserved::If) {
+        choice(alloc, cursor, room)
     } else {
-        None
+        chain(alloc, cursor, room, Precedence::Equivalence)
     }
 }
 
-/// The name of a token.
-pub fn name(alloc: Global, text: &[u8], token: &Token) -> Result<Name, SyntaxFault>
-    requires order { token.now.from ≤ token.now.to }
-    requires within { token.now.to ≤ length text.now }
-    ensures bytes { IfOk result (λ n. n.text ≡ slice_range text.now token.now.from token.now.to) }
-    ensures place { IfOk result (λ n. n.at ≡ token.now.from) }
-    ensures memory { result ≡ Err SyntaxFault.Unbuilt → ⊥ }
-{
-    let text = Word::new(alloc, &text[token.from..token.to]).map_err(|_| SyntaxFault::Memory)?;
-    Ok(Name {
-        text,
-        at: token.from as u64,
-    })
-}
-
-fn boxed(alloc: Global, inner: Expr) -> Result<Boxed<Expr>, SyntaxFault>
-    ensures value { IfOk result (λ b. b ≡ inner) }
-    ensures memory { result ≡ Err SyntaxFault.Unbuilt → ⊥ }
-{
-    Boxed::new(alloc, inner).map_err(|_| SyntaxFault::Memory)
-}
-
-/// One operand without an operator around it, in which at most `levels` levels are open at once.
+/// An expression inside a level that was opened here.
 #[cycle(expression)]
-fn unary(
-    alloc: Global,
-    text: &[u8],
-    tokens: &[Token],
-    levels: u8,
-) -> Result<(Expr, usize), SyntaxFault>
-    requires { AreWithin text.now tokens.now }
-    ensures taken { IfOk result (λ r. r.1 ≤ length tokens.now) }
-    ensures spelled { IfOk result (λ r. IsUnary text.now levels (take r.1 tokens.now) r.0) }
-    ensures unbuilt { result ≡ Err SyntaxFault.Unbuilt → (front rest : List Token) (e : Expr) →
-        tokens.now ≡ front ++ rest → IsUnary text.now levels front e → ⊥ }
+pub fn inside(alloc: Global, cursor: &mut Cursor<'_>, room: u8) -> Result<Expr, SyntaxFault>
+    requires some { 1 ≤ room }
+    requires few { room ≤ 200 }
+    ensures text { cursor.new.text ≡ cursor.old.text }
+    ensures reads { Reads (λ s. s.expression) after_expression
+        cursor.old.text room cursor.old.rest cursor.new.rest result }
 {
-    let [first, rest @ ..] = tokens else {
-        return Err(SyntaxFault::Unbuilt);
-    };
-    let at = first.from as u64;
-    if let Some(value) = truth_of(first) {
-        let form = Form::Truth(value);
-        return Ok((Expr { at, form }, 1));
-    }
-    if is_name(first) {
-        let form = Form::Path(name(alloc, text, first)?, Items::new(alloc));
-        return Ok((Expr { at, form }, 1));
-    }
-    if levels == 0 {
-        return Err(SyntaxFault::Unbuilt);
-    }
-    if is_mark(first, Mark::Not) {
-        let (inner, length) = unary(alloc, text, rest, levels - 1)?;
-        let form = Form::Not(boxed(alloc, inner)?);
-        return Ok((Expr { at, form }, 1 + length));
-    }
-    if is_mark(first, Mark::Open) {
-        let (inner, length) = parenthesised(alloc, text, rest, levels - 1)?;
-        return Ok((inner, 1 + length));
-    }
-    Err(SyntaxFault::Unbuilt)
+    expression(alloc, cursor, room - 1)
 }
 
-/// What follows an opening parenthesis, with the closing one.
+/// `if` with its branches and `else`.
 #[cycle(expression)]
-fn parenthesised(
-    alloc: Global,
-    text: &[u8],
-    rest: &[Token],
-    levels: u8,
-) -> Result<(Expr, usize), SyntaxFault>
-    requires { AreWithin text.now rest.now }
-    ensures taken { IfOk result (λ r. r.1 ≤ length rest.now) }
-    ensures spelled { IfOk result (λ r. EndedBy Mark.Close (IsExpression text.now levels) (take r.1 rest.now) r.0) }
-    ensures unbuilt { result ≡ Err SyntaxFault.Unbuilt → (front more : List Token) (e : Expr) →
-        rest.now ≡ front ++ more → EndedBy Mark.Close (IsExpression text.now levels) front e → ⊥ }
+fn choice(alloc: Global, cursor: &mut Cursor<'_>, room: u8) -> Result<Expr, SyntaxFault>
+    requires { room ≤ 200 }
+    ensures text { cursor.new.text ≡ cursor.old.text }
+    ensures reads { Reads IsChoice after_expression
+        cursor.old.text room cursor.old.rest cursor.new.rest result }
 {
-    let (inner, length) = chain(alloc, text, rest, levels, Op::Implies)?;
-    match rest.get(length) {
-        Some(closing) if is_mark(closing, Mark::Close) => Ok((inner, length + 1)),
-        _ => Err(SyntaxFault::Unbuilt),
-    }
+    let token = cursor.expect_if(room)?;
+    let first = branch(alloc, cursor, room)?;
+    let others = elifs(alloc, cursor, room)?;
+    cursor.expect_word(Reserved::Else)?;
+    let otherwise = inside(alloc, cursor, room)?;
+    choice_node(alloc, token, first, others, otherwise)
 }
 
-/// What stands on either side of an operator.
+/// A branch for each `elif`.
 #[cycle(expression)]
-fn operand(
-    alloc: Global,
-    text: &[u8],
-    tokens: &[Token],
-    levels: u8,
-    op: Op,
-) -> Result<(Expr, usize), SyntaxFault>
-    requires { AreWithin text.now tokens.now }
-    ensures taken { IfOk result (λ r. r.1 ≤ length tokens.now) }
-    ensures spelled { IfOk result (λ r. IsOperand text.now levels op (take r.1 tokens.now) r.0) }
-    ensures ends { IfOk result (λ r. OperandEndsAt op (drop r.1 tokens.now)) }
-    ensures unbuilt { result ≡ Err SyntaxFault.Unbuilt → (front rest : List Token) (e : Expr) →
-        tokens.now ≡ front ++ rest → OperandEndsAt op rest → IsOperand text.now levels op front e → ⊥ }
+fn elifs(alloc: Global, cursor: &mut Cursor<'_>, room: u8) -> Result<Items<Branch>, SyntaxFault>
+    requires some { 1 ≤ room }
+    requires few { room ≤ 200 }
+    ensures text { cursor.new.text ≡ cursor.old.text }
+    ensures reads { Reads AreElifs after_elifs
+        cursor.old.text room cursor.old.rest cursor.new.rest result }
 {
-    match op {
-        Op::Implies => chain(alloc, text, tokens, levels, Op::Or),
-        Op::Or => chain(alloc, text, tokens, levels, Op::And),
-        Op::And => unary(alloc, text, tokens, levels),
+    let mut branches = Items::new(alloc);
+    'further: while let Some(_elif) = cursor.accept_word(Reserved::Elif) {
+        let branch = branch(alloc, cursor, room)?;
+        push(&mut branches, branch)?;
     }
+    Ok(branches)
 }
 
-/// The operators and operands that follow a first operand, as far as the operator is this one.
+/// A condition, `then`, and what stands for it.
+#[cycle(expression)]
+fn branch(alloc: Global, cursor: &mut Cursor<'_>, room: u8) -> Result<Branch, SyntaxFault>
+    requires some { 1 ≤ room }
+    requires few { room ≤ 200 }
+    ensures text { cursor.new.text ≡ cursor.old.text }
+    ensures reads { Reads IsBranch after_expression
+        cursor.old.text room cursor.old.rest cursor.new.rest result }
+{
+    let when = inside(alloc, cursor, room)?;
+    cursor.expect_word(Reserved::Then)?;
+    let gives = inside(alloc, cursor, room)?;
+    Ok(Branch { when, gives })
+}
+
+/// One operand, or several with operators between them that bind so.
+#[cycle(expression)]
+fn chain(
+    alloc: Global,
+    cursor: &mut Cursor<'_>,
+    room: u8,
+    precedence: Precedence,
+) -> Result<Expr, SyntaxFault>
+    requires { room ≤ 200 }
+    ensures text { cursor.new.text ≡ cursor.old.text }
+    ensures reads { Reads (IsChainOf precedence) (after_chain precedence)
+        cursor.old.text room cursor.old.rest cursor.new.rest result }
+{
+    let first = tighter(alloc, cursor, room, precedence)?;
+    let links = links(alloc, cursor, room, precedence)?;
+    chain_node(alloc, first, links)
+}
+
+/// The operators that bind so, each with its right operand.
 #[cycle(expression)]
 fn links(
     alloc: Global,
-    text: &[u8],
-    tokens: &[Token],
-    levels: u8,
-    op: Op,
-) -> Result<(Items<Link>, usize), SyntaxFault>
-    requires within { AreWithin text.now tokens.now }
-    requires ends { OperandEndsAt op tokens.now }
-    ensures taken { IfOk result (λ r. r.1 ≤ length tokens.now) }
-    ensures spelled { IfOk result (λ r. AreLinks text.now levels op (take r.1 tokens.now) r.0) }
-    ensures ends { IfOk result (λ r. EndsAt op (drop r.1 tokens.now)) }
-    ensures unbuilt { result ≡ Err SyntaxFault.Unbuilt → (front rest : List Token) (links : List Link) →
-        tokens.now ≡ front ++ rest → EndsAt op rest → AreLinks text.now levels op front links → ⊥ }
+    cursor: &mut Cursor<'_>,
+    room: u8,
+    precedence: Precedence,
+) -> Result<Items<Link>, SyntaxFault>
+    requires { room ≤ 200 }
+    ensures text { cursor.new.text ≡ cursor.old.text }
+    ensures reads { Reads (λ s. Many (IsLink precedence (IsTighter precedence s))) (after_chain precedence)
+        cursor.old.text room cursor.old.rest cursor.new.rest result }
 {
     let mut links = Items::new(alloc);
-    let mut taken = 0;
-    while let [sign, rest @ ..] = &tokens[taken..] {
-        if !is_mark(sign, mark_of(op)) {
-            break;
-        }
-        let (with, length) = operand(alloc, text, rest, levels, op)?;
+    'further: while let Some((sign, op)) = cursor.accept_sign(precedence) {
+        let with = tighter(alloc, cursor, room, precedence)?;
         let at = sign.from as u64;
-        links
-            .push(Link { op, at, with })
-            .map_err(|_| SyntaxFault::Memory)?;
-        taken += 1 + length;
+        push(&mut links, Link { op, at, with })?;
     }
-    Ok((links, taken))
+    Ok(links)
 }
 
-/// An operand of an operator, or several with it between them.
+/// An operand of the operators that bind so.
 #[cycle(expression)]
-pub fn chain(
+fn tighter(
     alloc: Global,
-    text: &[u8],
-    tokens: &[Token],
-    levels: u8,
-    op: Op,
-) -> Result<(Expr, usize), SyntaxFault>
-    requires { AreWithin text.now tokens.now }
-    ensures taken { IfOk result (λ r. r.1 ≤ length tokens.now) }
-    ensures spelled { IfOk result (λ r. IsLevel text.now levels op (take r.1 tokens.now) r.0) }
-    ensures ends { IfOk result (λ r. EndsAt op (drop r.1 tokens.now)) }
-    ensures unbuilt { result ≡ Err SyntaxFault.Unbuilt → (front rest : List Token) (e : Expr) →
-        tokens.now ≡ front ++ rest → EndsAt op rest → IsLevel text.now levels op front e → ⊥ }
+    cursor: &mut Cursor<'_>,
+    room: u8,
+    precedence: Precedence,
+) -> Result<Expr, SyntaxFault>
+    requires { room ≤ 200 }
+    ensures text { cursor.new.text ≡ cursor.old.text }
+    ensures reads { Reads (IsTighter precedence) (after_tighter precedence)
+        cursor.old.text room cursor.old.rest cursor.new.rest result }
 {
-    let (first, length) = operand(alloc, text, tokens, levels, op)?;
-    let (links, more) = links(alloc, text, &tokens[length..], levels, op)?;
-    let taken = length + more;
-    match links.get(0) {
-        None => Ok((first, taken)),
-        Some(link) => {
-            let at = link.at;
-            let form = Form::Chain(boxed(alloc, first)?, links);
-            Ok((Expr { at, form }, taken))
-        }
+    match precedence {
+        Precedence::Equivalence => chain(alloc, cursor, room, Precedence::Implication),
+        Precedence::Implication => chain(alloc, cursor, room, Precedence::Disjunction),
+        Precedence::Disjunction => chain(alloc, cursor, room, Precedence::Conjunction),
+        Precedence::Conjunction => comparison(alloc, cursor, room),
+        Precedence::Sum => chain(alloc, cursor, room, Precedence::Product),
+        Precedence::Product => operand(alloc, cursor, room),
     }
+}
+
+/// One sum, or two that are compared.
+#[cycle(expression)]
+fn comparison(alloc: Global, cursor: &mut Cursor<'_>, room: u8) -> Result<Expr, SyntaxFault>
+    requires { room ≤ 200 }
+    ensures text { cursor.new.text ≡ cursor.old.text }
+    ensures reads { Reads IsCompared after_comparison
+        cursor.old.text room cursor.old.rest cursor.new.rest result }
+{
+    let left = chain(alloc, cursor, room, Precedence::Sum)?;
+    let Some((sign, comparison)) = cursor.accept_comparison() else {
+        return Ok(left);
+    };
+    let right = chain(alloc, cursor, room, Precedence::Sum)?;
+    comparison_node(alloc, sign, comparison, left, right)
+}
+
+/// One or more expressions inside a level, parted by commas.
+#[cycle(expression)]
+pub fn expressions(
+    alloc: Global,
+    cursor: &mut Cursor<'_>,
+    room: u8,
+) -> Result<Items<Expr>, SyntaxFault>
+    requires some { 1 ≤ room }
+    requires few { room ≤ 200 }
+    ensures text { cursor.new.text ≡ cursor.old.text }
+    ensures reads { Reads (λ s. Listed s.expression) (list_goes_on after_expression)
+        cursor.old.text room cursor.old.rest cursor.new.rest result }
+{
+    let mut items = Items::new(alloc);
+    let first = inside(alloc, cursor, room)?;
+    push(&mut items, first)?;
+    'further: while let Some(_comma) = cursor.accept(Mark::Comma) {
+        let item = inside(alloc, cursor, room)?;
+        push(&mut items, item)?;
+    }
+    Ok(items)
 }

@@ -1,14 +1,21 @@
 //! Parses the tokens of a text into its tree.
 #![tactic(auto)]
 
+mod cursor;
+mod definitions;
 mod expression;
 mod fault;
 mod law;
-mod section;
+mod model;
+mod nodes;
+mod primary;
+mod quantifier;
+mod reading;
+mod types;
 
 pub use fault::SyntaxFault;
-pub use law::one_model;
-pub use section::{LEVELS, parse};
+pub use law::{fault_spells_nothing, one_fault, one_model};
+pub use model::parse;
 
 #[cfg(test)]
 mod tests;

@@ -1,5 +1,12 @@
 pub mod TableLemmas
-pub mod TokenLemmas
-pub mod SplitLemmas
 pub mod PlaceLemmas
-pub mod Within
+pub mod RunLemmas
+pub mod NumberLemmas
+pub mod FormLemmas
+pub mod PieceLemmas
+pub mod SplitLemmas
+pub mod FrontLemmas
+pub mod TotalLemmas
+pub mod OrderLemmas
+pub mod SeamLemmas
+pub mod FaultLemmas

@@ -1,3 +1,7 @@
 pub mod Words
-pub mod Tokens
+pub mod Numbers
+pub mod Marks
+pub mod Names
 pub mod Place
+pub mod Pieces
+pub mod Tokens

@@ -1,66 +1,66 @@
 -- How a text is split into tokens.
-use Rattle.std.specs.Prelude.{◌≡◌, ℕ, ◌+◌, ◌<◌, Bool, ◌||◌, ◌==◌, IsTrue, List, [], ◌∷◌, ◌++◌, length, Option, Some, None, codes}
-use Rattle.std.specs.List.{list_all}
-use Rattle.std.specs.Map.{lookup}
-use Rattle.std.specs.Str.{bytes_eq}
-use Rattle.hll_lexer.specs.declared.token.Mark.{Mark}
-use Rattle.hll_lexer.specs.declared.token.Mark.TheVariants as mark
+use Rattle.std.specs.Prelude.{◌≡◌, ℕ, ◌+◌, ◌<◌, ◌≤◌, List, [], ◌∷◌, ◌++◌, length, slice_range, Option, option_map, option_to_list}
+use Rattle.hll_lexer.specs.declared.fault.LexFault.{LexFault}
+use Rattle.hll_lexer.specs.declared.fault.LexFault.TheVariants as lexing
+use Rattle.hll_lexer.specs.declared.fault.Fault.{Fault}
+use Rattle.hll_lexer.specs.declared.fault.Fault.TheVariants as fault
 use Rattle.hll_lexer.specs.declared.token.Token.{Token}
 use Rattle.hll_lexer.specs.declared.token.TokenKind.{TokenKind}
-use Rattle.hll_lexer.specs.declared.token.TokenKind.TheVariants.{Name, Reserved, Mark as Marked}
-use Rattle.hll_lexer.specs.Words.{IsWord, reserved_of, is_built}
+use Rattle.hll_lexer.specs.Pieces.{IsToken, Stands, IsFault}
 
--- space, tab, line feed and carriage return
-abbrev pub is_blank : ℕ → Bool
-is_blank b = b == 32 || b == 9 || b == 10 || b == 13
-
--- all of these bytes are blanks
-abbrev pub AreBlanks : List ℕ → Type 0
-AreBlanks bytes = IsTrue (list_all is_blank bytes)
-
--- the marks, each as it is spelled
-unfoldable pub marks : List (List ℕ × Mark)
-marks =
-    (codes ":", mark.Colon) ∷ (codes ";", mark.Semicolon) ∷ (codes ",", mark.Comma) ∷ (codes "(", mark.Open)
-    ∷ (codes ")", mark.Close) ∷ (codes "~", mark.Not) ∷ (codes "&", mark.And) ∷ (codes "#", mark.Or)
-    ∷ (codes "->", mark.Implies) ∷ []
-
--- the mark that is spelled so, if there is one
-unfoldable pub mark_of : List ℕ → Option Mark
-mark_of bytes = lookup (bytes_eq bytes) marks
-
--- these bytes are a token of this kind: a name is a word that isn't reserved
-abbrev pub IsToken : List ℕ → TokenKind → Type 0
-IsToken bytes Name = IsWord bytes × (reserved_of bytes ≡ None)
-IsToken bytes (Reserved word) = reserved_of bytes ≡ Some word
-IsToken bytes (Marked mark) = mark_of bytes ≡ Some mark
-
--- the forms with this kind of token are built
-abbrev pub IsBuilt : TokenKind → Type 0
-IsBuilt (Reserved word) = IsTrue (is_built word)
-IsBuilt _ = Unit {0}
-
--- these bytes are a token of this kind, and with more of the bytes that follow they are none: it is the longest that stands there
-pub record IsLongestToken (bytes : List ℕ) (kind : TokenKind) (rest : List ℕ) : Type 0 where
-  pub token : IsToken bytes kind
-  pub longest : (more after : List ℕ) (other : TokenKind) → rest ≡ more ++ after → 0 < length more → IsToken (bytes ++ more) other → ⊥
-
--- a text that begins with this token, which starts at a place: blanks, the token, and a rest
-pub record BeginsWith (at : ℕ) (text : List ℕ) (t : Token) (rest : List ℕ) : Type 0 where
-  pub gap : List ℕ
+-- a piece of a text: its bytes, and the kind of token that they are, or none for a blank or a comment
+pub record Piece : Type 0 where
   pub bytes : List ℕ
-  pub whole : text ≡ gap ++ bytes ++ rest
-  pub blanks : AreBlanks gap
-  pub from : t.from ≡ at + length gap
-  pub to : t.to ≡ t.from + length bytes
-  pub token : IsLongestToken bytes t.kind rest
-  pub built : IsBuilt t.kind
+  pub kind : Option TokenKind
 
--- a text from a place on is split into these tokens, with blanks before, between and after them
-abbrev pub SplitsFrom : ℕ → List ℕ → List Token → Type 0
-SplitsFrom at text [] = AreBlanks text
-SplitsFrom at text (t ∷ ts) = (rest : List ℕ) × BeginsWith at text t rest × SplitsFrom t.to rest ts
+-- the bytes of pieces, one after another
+abbrev pub text_of : List Piece → List ℕ
+text_of [] = []
+text_of (p ∷ ps) = p.bytes ++ text_of ps
 
--- a text is split into these tokens
-abbrev pub Splits : List ℕ → List Token → Type 0
-Splits text ts = SplitsFrom 0 text ts
+-- at the place of each piece it is what stands there, with a rest of the text behind them all
+abbrev pub AllStand : List Piece → List ℕ → Type 0
+AllStand [] rest = Unit {0}
+AllStand (p ∷ ps) rest = Stands p.kind p.bytes (text_of ps ++ rest) × AllStand ps rest
+
+-- the token of a piece that begins at a place, if it is one
+abbrev pub token_at : ℕ → Piece → Option Token
+token_at at p = option_map (λ kind. record { kind = kind; from = at; to = at + length p.bytes }) p.kind
+
+-- the tokens among pieces, the first of which begins at a place
+abbrev pub tokens_of : ℕ → List Piece → List Token
+tokens_of at [] = []
+tokens_of at (p ∷ ps) = option_to_list (token_at at p) ++ tokens_of (at + length p.bytes) ps
+
+-- the text is put together from blanks, comments and longest tokens, and these are the tokens
+pub record Splits (text : List ℕ) (ts : List Token) : Type 0 where
+  pub pieces : List Piece
+  pub whole : text ≡ text_of pieces
+  pub stand : AllStand pieces []
+  pub tokens : ts ≡ tokens_of 0 pieces
+
+-- a fault that stands at a place
+abbrev pub fault_at : ℕ → Fault → LexFault
+fault_at place fault.Stray = lexing.Stray place
+fault_at place fault.Unclosed = lexing.Unclosed place
+fault_at place fault.Number = lexing.Number place
+
+-- the text is put together so up to a place, and this fault stands there
+pub record HasFault (text : List ℕ) (why : LexFault) : Type 0 where
+  pub pieces : List Piece
+  pub rest : List ℕ
+  pub kind : Fault
+  pub whole : text ≡ text_of pieces ++ rest
+  pub stand : AllStand pieces rest
+  pub fault : IsFault rest kind
+  pub place : why ≡ fault_at (length (text_of pieces)) kind
+
+-- these tokens stand one behind the other, from a place on and up to an end
+abbrev pub AreInOrder : ℕ → ℕ → List Token → Type 0
+AreInOrder at end [] = Unit {0}
+AreInOrder at end (t ∷ ts) = (at ≤ t.from) × (t.from < t.to) × (t.to ≤ end) × AreInOrder t.to end ts
+
+-- the bytes of each of these tokens are one of its kind
+abbrev pub AreTokens : List ℕ → List Token → Type 0
+AreTokens text [] = Unit {0}
+AreTokens text (t ∷ ts) = IsToken (slice_range text t.from t.to) t.kind × AreTokens text ts

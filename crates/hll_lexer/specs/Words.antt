@@ -1,5 +1,5 @@
 -- The words of the language: names, and the words that are reserved.
-use Rattle.std.specs.Prelude.{ℕ, Bool, true, false, ◌&&◌, ◌||◌, ◌==◌, nat_le, IsTrue, List, [], ◌∷◌, Option, codes}
+use Rattle.std.specs.Prelude.{ℕ, Bool, false, not, is_some, ◌&&◌, ◌||◌, ◌==◌, nat_le, IsTrue, List, [], ◌∷◌, Option, codes}
 use Rattle.std.specs.List.{list_all}
 use Rattle.std.specs.Map.{lookup}
 use Rattle.std.specs.Str.{bytes_eq}
@@ -36,12 +36,7 @@ reserved_words =
 unfoldable pub reserved_of : List ℕ → Option Reserved
 reserved_of bytes = lookup (bytes_eq bytes) reserved_words
 
--- the reserved words of the forms that are built
-abbrev pub is_built : Reserved → Bool
-is_built word.Inputs = true
-is_built word.Proof = true
-is_built word.Obligations = true
-is_built word.Bool = true
-is_built word.True = true
-is_built word.False = true
-is_built _ = false
+-- a word that isn't reserved
+abbrev pub is_plain_name : List ℕ → Bool
+is_plain_name [] = false
+is_plain_name (b ∷ bs) = begins_word b && list_all continues_word bs && not (is_some (reserved_of (b ∷ bs)))

@@ -37,6 +37,8 @@ pub enum Reserved {
 /// An operator or a separator.
 #[derive(Clone, Copy, Debug, PartialEq, Eq)]
 pub enum Mark {
+    /// `:=`
+    Assign,
     /// `:`
     Colon,
     /// `;`
@@ -47,19 +49,65 @@ pub enum Mark {
     Open,
     /// `)`
     Close,
-    /// `~`
-    Not,
-    /// `&`
-    And,
-    /// `#`
-    Or,
+    /// `[`
+    OpenBracket,
+    /// `]`
+    CloseBracket,
+    /// `{`
+    OpenBrace,
+    /// `}`
+    CloseBrace,
+    /// `.`
+    Dot,
     /// `->`
     Implies,
+    /// `<->`
+    Same,
+    /// `#!`
+    Differ,
+    /// `#`
+    Or,
+    /// `&`
+    And,
+    /// `~`
+    Not,
+    /// `=` or `==`
+    Equal,
+    /// `<>` or `!=`
+    Unequal,
+    /// `<`
+    Less,
+    /// `<=`
+    LessEqual,
+    /// `>`
+    Greater,
+    /// `>=`
+    GreaterEqual,
+    /// `+`
+    Plus,
+    /// `-`
+    Minus,
+    /// `*`
+    Times,
+    /// `/`
+    Over,
+    /// `%`
+    Rest,
+    /// `$min`
+    Min,
+    /// `$max`
+    Max,
+    /// `$abs`
+    Abs,
 }
 
+/// What a token is.
 #[derive(Clone, Copy, Debug, PartialEq, Eq)]
 pub enum TokenKind {
+    /// A name that is plain or stands in quotes.
     Name,
+    /// A number, with its value: at least 0, and at most `i128::MAX`.
+    Number(i128),
     Reserved(Reserved),
     Mark(Mark),
 }

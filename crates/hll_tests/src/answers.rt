@@ -1,5 +1,5 @@
 use crate::memory::{file, prove, run_over};
-use ports::{FileText, MemoryDesk, MemorySink};
+use ports::{MemoryDesk, MemorySink};
 use std::test::Fail;
 
 #[test]
@@ -40,15 +40,21 @@ fn texts_have_these_answers(rt: HostRuntime) -> Result<(), Fail> {
             0,
             b"obligation 1 at 2:54: proved 1\nproved 1 falsified 0 undecided 0\n",
         ),
-        (b"// a comment\n", 3, b"refused Unbuilt\n"),
-        (b"Inputs: bool a; /* a comment */", 3, b"refused Unbuilt\n"),
+        // Comments, and a name in quotes.
+        (b"// a comment\n", 0, b"proved 0 falsified 0 undecided 0\n"),
+        (
+            b"Inputs: bool 'a'; /* a comment */ Proof Obligations: a -> 'a';",
+            0,
+            b"obligation 1 at 1:56: proved 1\nproved 1 falsified 0 undecided 0\n",
+        ),
+        // A text of the language that isn't decided yet.
         (b"Inputs: int [0, 3] d;", 3, b"refused Unbuilt\n"),
         (
             b"Inputs: bool a;\nProof Obligations: a",
             3,
-            b"refused Unbuilt\n",
+            b"refused Unexpected at 2:21\n",
         ),
-        (b"Inputs: bool a\xE9;", 3, b"refused Unbuilt\n"),
+        (b"Inputs: bool a\xE9;", 3, b"refused Stray at 1:15\n"),
     ];
     for (text, status, output) in table {
         let (answered, out) = prove(&rt, rt.alloc(), text)?;
@@ -58,41 +64,205 @@ fn texts_have_these_answers(rt: HostRuntime) -> Result<(), Fail> {
     Ok(())
 }
 
+/// A line of words, which read and which write fails (0: none), the status, and what is written.
+struct Run {
+    line: &'static str,
+    failing_read: u64,
+    failing_write: u64,
+    status: u8,
+    output: &'static [u8],
+}
+
+const USAGE: &[u8] = b"usage: hll prove MODEL | hll format MODEL\n";
+
+/// The runs on one model.
+const RUNS: [Run; 13] = [
+    Run {
+        line: "prove m",
+        failing_read: 0,
+        failing_write: 0,
+        status: 0,
+        output: b"obligation 1 at 2:22: proved 1\nproved 1 falsified 0 undecided 0\n",
+    },
+    Run {
+        line: "format m",
+        failing_read: 0,
+        failing_write: 0,
+        status: 0,
+        output: b"Inputs:\n  bool a;\nProof Obligations:\n  a # ~a;\n",
+    },
+    // The first and the second read of the model fail.
+    Run {
+        line: "prove m",
+        failing_read: 1,
+        failing_write: 0,
+        status: 5,
+        output: b"refused read m\n",
+    },
+    Run {
+        line: "format m",
+        failing_read: 2,
+        failing_write: 0,
+        status: 5,
+        output: b"refused read m\n",
+    },
+    Run {
+        line: "prove other",
+        failing_read: 0,
+        failing_write: 0,
+        status: 5,
+        output: b"refused read other\n",
+    },
+    // The first write fails.
+    Run {
+        line: "prove m",
+        failing_read: 0,
+        failing_write: 1,
+        status: 6,
+        output: b"",
+    },
+    Run {
+        line: "format m",
+        failing_read: 0,
+        failing_write: 1,
+        status: 6,
+        output: b"",
+    },
+    Run {
+        line: "prove m",
+        failing_read: 1,
+        failing_write: 1,
+        status: 6,
+        output: b"",
+    },
+    Run {
+        line: "",
+        failing_read: 0,
+        failing_write: 0,
+        status: 4,
+        output: USAGE,
+    },
+    Run {
+        line: "prove",
+        failing_read: 0,
+        failing_write: 0,
+        status: 4,
+        output: USAGE,
+    },
+    Run {
+        line: "prove m m",
+        failing_read: 0,
+        failing_write: 0,
+        status: 4,
+        output: USAGE,
+    },
+    Run {
+        line: "format --help",
+        failing_read: 0,
+        failing_write: 0,
+        status: 4,
+        output: USAGE,
+    },
+    Run {
+        line: "check m",
+        failing_read: 0,
+        failing_write: 0,
+        status: 4,
+        output: USAGE,
+    },
+];
+
 #[test]
-fn words_and_ports_are_refused_by_their_statuses(rt: HostRuntime) -> Result<(), Fail> {
+fn words_and_ports_have_their_statuses(rt: HostRuntime) -> Result<(), Fail> {
     let alloc = rt.alloc();
     let text = b"Inputs: bool a;\nProof Obligations: a # ~a;\n";
-    let usage = b"usage: hll prove MODEL\n";
-    let table: [(&[&str], u64, u64, u8, &[u8]); 9] = [
-        (
-            &["prove", "m"],
-            0,
-            0,
-            0,
-            b"obligation 1 at 2:22: proved 1\nproved 1 falsified 0 undecided 0\n",
-        ),
-        // The first and the second read of the model fail.
-        (&["prove", "m"], 1, 0, 5, b"refused read m\n"),
-        (&["prove", "m"], 2, 0, 5, b"refused read m\n"),
-        (&["prove", "other"], 0, 0, 5, b"refused read other\n"),
-        // The first write fails.
-        (&["prove", "m"], 0, 1, 6, b""),
-        (&["prove", "m"], 1, 1, 6, b""),
-        (&[], 0, 0, 4, usage),
-        (&["prove", "m", "m"], 0, 0, 4, usage),
-        (&["check", "m"], 0, 0, 4, usage),
-    ];
-    for (words, failing_read, failing_write, status, output) in table {
+    for case in &RUNS {
         let mut desk = MemoryDesk::new(
             alloc,
             file(alloc, "m", text)?,
-            vec![in alloc; failing_read]?,
+            vec![in alloc; case.failing_read]?,
         );
-        let mut out = MemorySink::new(alloc, vec![in alloc; failing_write]?);
-        let answered = run_over(&rt, alloc, words, &mut desk, &mut out)?;
-        assert_eq!(rt; out.bytes(), output);
-        assert_eq!(rt; answered, status);
+        let mut out = MemorySink::new(alloc, vec![in alloc; case.failing_write]?);
+        let answered = run_over(&rt, alloc, case.line, &mut desk, &mut out)?;
+        assert_eq!(rt; out.bytes(), case.output);
+        assert_eq!(rt; answered, case.status);
         assert_eq!(rt; desk.file("m"), Some(text.as_slice()));
+    }
+    Ok(())
+}
+
+/// A text and the line on its first mistake.
+struct Mistaken {
+    text: &'static [u8],
+    line: &'static [u8],
+}
+
+const MISTAKEN: [Mistaken; 14] = [
+    Mistaken {
+        text: b"Inputs: bool a;\nProof Obligations: a ! a;\n",
+        line: b"refused Stray at 2:22\n",
+    },
+    Mistaken {
+        text: b"Inputs: bool a",
+        line: b"refused Unexpected at 1:15\n",
+    },
+    Mistaken {
+        text: b"Inputs: bool a b;",
+        line: b"refused Unexpected at 1:16\n",
+    },
+    Mistaken {
+        text: b"Proof Obligations: a < b < c;",
+        line: b"refused Unexpected at 1:26\n",
+    },
+    Mistaken {
+        text: b"Constraints: ;",
+        line: b"refused Unexpected at 1:14\n",
+    },
+    Mistaken {
+        text: b"Proof Constraints: a;",
+        line: b"refused Unexpected at 1:7\n",
+    },
+    Mistaken {
+        text: b"Constants: int N := 0x;",
+        line: b"refused Unexpected at 1:22\n",
+    },
+    Mistaken {
+        text: b"Constants: int N := 170141183460469231731687303715884105728;",
+        line: b"refused Number at 1:21\n",
+    },
+    Mistaken {
+        text: b"/* a",
+        line: b"refused Unclosed at 1:1\n",
+    },
+    Mistaken {
+        text: b"Inputs: bool '';",
+        line: b"refused Stray at 1:14\n",
+    },
+    // A mistake of the tokens comes before one of the grammar, and this before a form that isn't built.
+    Mistaken {
+        text: b"Inputs: bool a b; 'c",
+        line: b"refused Unclosed at 1:19\n",
+    },
+    Mistaken {
+        text: b"Types: bool t; Inputs: bool a b;",
+        line: b"refused Unexpected at 1:31\n",
+    },
+    Mistaken {
+        text: b"Inputs: bool a[2];",
+        line: b"refused Unbuilt\n",
+    },
+    Mistaken {
+        text: b"Inputs: bool a; Proof Obligations: a <-> a;",
+        line: b"refused Unbuilt\n",
+    },
+];
+
+#[test]
+fn each_first_mistake_is_named_with_its_place(rt: HostRuntime) -> Result<(), Fail> {
+    for case in &MISTAKEN {
+        let (answered, out) = prove(&rt, rt.alloc(), case.text)?;
+        assert_eq!(rt; out.bytes(), case.line);
+        assert_eq!(rt; answered, 3);
     }
     Ok(())
 }

@@ -6,6 +6,8 @@ mod answers;
 #[cfg(test)]
 mod endless;
 #[cfg(test)]
+mod layouts;
+#[cfg(test)]
 mod limits;
 #[cfg(test)]
 mod memory;

@@ -4,6 +4,8 @@ use std::test::Fail;
 
 const UNBUILT: &[u8] = b"refused Unbuilt\n";
 
+const DEEP: &[u8] = b"refused Deep at 1:236\n";
+
 const FALSIFIED: &[u8] =
     b"obligation 1 at 1:36: falsified 1\n0: a=false\nproved 0 falsified 1 undecided 0\n";
 
@@ -59,7 +61,7 @@ const NESTED: [Nested; 11] = [
         closing: b"",
         tail: b";",
         status: 3,
-        output: UNBUILT,
+        output: DEEP,
     },
     Nested {
         head: HEAD,
@@ -79,7 +81,7 @@ const NESTED: [Nested; 11] = [
         closing: b")",
         tail: b";",
         status: 3,
-        output: UNBUILT,
+        output: DEEP,
     },
     Nested {
         head: HEAD,
@@ -99,7 +101,7 @@ const NESTED: [Nested; 11] = [
         closing: b")",
         tail: b";",
         status: 3,
-        output: UNBUILT,
+        output: DEEP,
     },
     // The levels of one operand are not those of the next.
     Nested {
@@ -232,7 +234,7 @@ fn no_reserved_word_is_a_name(rt: HostRuntime) -> Result<(), Fail> {
     for word in words {
         let text = format!(in alloc; "Inputs: bool {word};")?;
         let (answered, out) = prove(&rt, alloc, text.as_bytes())?;
-        assert_eq!(rt; out.bytes(), b"refused Unbuilt\n".as_slice());
+        assert_eq!(rt; out.bytes(), b"refused Unexpected at 1:14\n".as_slice());
         assert_eq!(rt; answered, 3);
     }
     Ok(())

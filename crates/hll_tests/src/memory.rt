@@ -2,9 +2,11 @@
 
 ghost use Rattle.std.specs.Prelude.{◌≡◌, IfOk, List, ℕ, Some, length, map, string_bytes};
 ghost use Rattle.ports.specs.DeskState.{file_or_empty};
-ghost use Rattle.hll_cli.specs.Answers.{IsReported};
-ghost use Rattle.hll_cli.specs.Prove.{HasAccepted};
-ghost use Rattle.hll_cli.specs.Words.{request_of, Prove};
+ghost use Rattle.command_line.specs.Words.{request_of, Prove, Format};
+ghost use Rattle.hll_cli.specs.Answers.{IsReported, IsDone};
+ghost use Rattle.hll_cli.specs.Format.{HasModel};
+ghost use Rattle.hll_cli.specs.Prove.{HasAcceptedModel};
+ghost use Rattle.hll_cli.specs.Texts.{HasText};
 
 use hll_cli::run;
 use ports::{Desk, FileText, OpenGate, Sink, SureDesk, SureSink};
@@ -22,29 +24,31 @@ pub fn file(alloc: Global, name: &str, bytes: &[u8]) -> Result<Vec<FileText>, Al
     Ok(vec![in alloc; file]?)
 }
 
-/// The words as the program gets them.
-fn owned(alloc: Global, words: &[&str]) -> Result<Vec<String>, AllocError> {
-    let mut owned = Vec::new(alloc);
-    for word in words {
-        owned.push(String::from_str(alloc, word)?)?;
+/// The words of a line, which stand with a space between each two of them; an empty line has none.
+fn words(alloc: Global, line: &str) -> Result<Vec<String>, AllocError> {
+    let mut words = Vec::new(alloc);
+    if !line.is_empty() {
+        for word in line.split(' ') {
+            words.push(String::from_str(alloc, word)?)?;
+        }
     }
-    Ok(owned)
+    Ok(words)
 }
 
-/// Runs the command over any ports.
+/// Runs a line of words over any ports.
 pub fn run_over<R: Threads + Sync, D: Desk, O: Sink>(
     rt: &R,
     alloc: Global,
-    words: &[&str],
+    line: &str,
     desk: &mut D,
     out: &mut O,
 ) -> Result<u8, AllocError> {
-    let words = owned(alloc, words)?;
+    let words = words(alloc, line)?;
     Ok(run(rt, alloc, &words, desk, out, &OpenGate))
 }
 
-/// Runs the command over ports that only want of memory stops. There a text that is accepted gets its
-/// report, unless memory runs out.
+/// Runs words over ports that only want of memory stops. There a text that is accepted gets its report, and one that
+/// spells a model its layout, unless memory runs out.
 fn run_surely<R: Threads + Sync>(
     rt: &R,
     alloc: Global,
@@ -52,10 +56,26 @@ fn run_surely<R: Threads + Sync>(
     desk: &mut SureDesk,
     out: &mut SureSink,
 ) -> u8
-    ensures { (name : List ℕ) → request_of (map string_bytes words.now) ≡ Some (Prove name)
-        → HasAccepted (file_or_empty desk.old.files) name → IsReported result }
+    ensures prove { (name : List ℕ) → request_of (map string_bytes words.now) ≡ Some (Prove name)
+        → HasText (file_or_empty desk.old.files) name HasAcceptedModel → IsReported result }
+    ensures format { (name : List ℕ) → request_of (map string_bytes words.now) ≡ Some (Format name)
+        → HasText (file_or_empty desk.old.files) name HasModel → IsDone result }
 {
     run(rt, alloc, words, desk, out, &OpenGate)
+}
+
+/// The status of a line of words over a desk with one file `m`, and what it writes.
+pub fn answer<R: Threads + Sync>(
+    rt: &R,
+    alloc: Global,
+    line: &str,
+    text: &[u8],
+) -> Result<(u8, SureSink), AllocError> {
+    let mut desk = SureDesk::new(alloc, file(alloc, "m", text)?);
+    let mut out = SureSink::new(alloc);
+    let words = words(alloc, line)?;
+    let status = run_surely(rt, alloc, &words, &mut desk, &mut out);
+    Ok((status, out))
 }
 
 /// The status of `prove m` on a text, and what it writes.
@@ -64,9 +84,5 @@ pub fn prove<R: Threads + Sync>(
     alloc: Global,
     text: &[u8],
 ) -> Result<(u8, SureSink), AllocError> {
-    let mut desk = SureDesk::new(alloc, file(alloc, "m", text)?);
-    let mut out = SureSink::new(alloc);
-    let words = owned(alloc, &["prove", "m"])?;
-    let status = run_surely(rt, alloc, &words, &mut desk, &mut out);
-    Ok((status, out))
+    answer(rt, alloc, "prove m", text)
 }

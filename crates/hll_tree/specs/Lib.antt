@@ -1,2 +1,7 @@
 pub mod Spells
+pub mod Prefixes
 pub mod Meaning
+pub mod Printing
+pub mod PrintedParts
+pub mod WithoutPlaces
+pub mod PrintLaw

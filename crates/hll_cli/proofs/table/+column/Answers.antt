@@ -1,15 +1,17 @@
 use Rattle.std.proofs.Common.{◌^◌, length, sym, ◌∙◌, ap, add-one}
+use Rattle.std.proofs.lemmas.Bool.{false≢true}
 use Rattle.std.proofs.lemmas.List.{length-map}
 use Rattle.hll_cli.proofs.Columns.{not_used, path_used, chain_used_first, chain_used_link, truth_uses, path_uses, not_uses, truth_column, path_column, not_column, chain_start, chain_step, links_from, written_whole}
+use Rattle.hll_cli.proofs.Booleans.{boolean_not, chain_boolean_first, chain_boolean_link}
 use Rattle.hll_cli.proofs.table.+column.Goals as goal
 
 pub returns-in_default-clause-unknown : goal.returns-in_default-clause-unknown
 returns-in_default-clause-unknown t c = let u = rw (c.in_default.is, c.get.ensures) at c.in_ok-column-in-Not.ensures.unknown in
-    λ all. u (not_used _ _ _ c.in-Not.is all)
+    λ boolean all. u (sym (boolean_not _ _ c.in-Not.is) ∙ boolean) (not_used _ _ _ c.in-Not.is all)
 
 pub returns-in_default-2-clause-unknown : goal.returns-in_default-2-clause-unknown
 returns-in_default-2-clause-unknown t c = let u = rw (c.in_default-2.is, c.get-in-Chain.ensures) at c.in_ok-value-in-Chain.ensures.unknown in
-    λ all. u (chain_used_first _ _ _ _ c.in-Chain.is all)
+    λ boolean all. u (chain_boolean_first _ _ _ c.in-Chain.is boolean) (chain_used_first _ _ _ _ c.in-Chain.is all)
 
 pub loop-link-init : goal.loop-link-init
 loop-link-init t c =
@@ -21,8 +23,17 @@ loop-link-init t c =
 pub returns-in_default-3-clause-unknown : goal.returns-in_default-3-clause-unknown
 returns-in_default-3-clause-unknown t c =
     let u = rw c.in_default-3.is at c.in_ok-next-in-Chain.ensures.unknown in
-    λ all. u (chain_used_link _ _ _ _ c.loop-link.link-index c.link-item.result c.in-Chain.is
-    (rw c.as_slice-link-items.ensures at c.loop-link-test.true) (rw c.as_slice-link-items.ensures at c.link-item.is) all)
+    let within = rw c.as_slice-link-items.ensures at c.loop-link-test.true in
+    let item = rw c.as_slice-link-items.ensures at c.link-item.is in
+    λ boolean all. u (chain_boolean_link _ _ _ c.loop-link.link-index c.link-item.result c.in-Chain.is within item boolean).1
+    (chain_used_link _ _ _ _ c.loop-link.link-index c.link-item.result c.in-Chain.is within item all)
+
+pub returns-then-not-is_boolean_op-clause-unknown : goal.returns-then-not-is_boolean_op-clause-unknown
+returns-then-not-is_boolean_op-clause-unknown t c =
+    let within = rw c.as_slice-link-items.ensures at c.loop-link-test.true in
+    let item = rw c.as_slice-link-items.ensures at c.link-item.is in
+    λ boolean all. false≢true (sym c.if-not-is_boolean_op.true ∙ c.is_boolean_op.ensures
+    ∙ (chain_boolean_link _ _ _ c.loop-link.link-index c.link-item.result c.in-Chain.is within item boolean).0)
 
 pub loop-link-preserved : goal.loop-link-preserved
 loop-link-preserved t c =
@@ -52,7 +63,7 @@ pub returns-in_ok-constant-in-Truth-clause-declared : goal.returns-in_ok-constan
 returns-in_ok-constant-in-Truth-clause-declared t c = truth_uses _ _ _ c.in-Truth.is
 
 pub returns-in-None-clause-unknown : goal.returns-in-None-clause-unknown
-returns-in-None-clause-unknown t c = let n = rw c.bytes.ensures at c.in-None.ensures.none in λ all. n (path_used _ _ _ _ c.in-Path.is all)
+returns-in-None-clause-unknown t c = let n = rw c.bytes.ensures at c.in-None.ensures.none in λ boolean all. n (path_used _ _ _ _ c.in-Path.is all)
 
 pub returns-in_ok-input-in-Some-clause-column : goal.returns-in_ok-input-in-Some-clause-column
 returns-in_ok-input-in-Some-clause-column t c =

@@ -1,5 +1,5 @@
-use Rattle.hll_grammar.proofs.OneSection.{one_model}
+use Rattle.hll_grammar.proofs.OneModel.{one_model}
 use Rattle.hll_grammar.proofs.law.one_model.Goals as goal
 
 pub returns : goal.returns
-returns c = λ levels text tokens m n. one_model text levels tokens m n
+returns c = λ text tokens m n. one_model text tokens m n

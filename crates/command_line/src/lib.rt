@@ -1,0 +1,9 @@
+//! What the words of the command line ask for, as `clap` reads them.
+#![tactic(auto)]
+
+mod command;
+
+pub use command::Command;
+
+#[cfg(test)]
+mod tests;
