@@ -13,8 +13,8 @@ use Rattle.hll_tree.specs.declared.tree.Link.{Link}
 use Rattle.hll_tree.specs.declared.tree.Name.{Name}
 use Rattle.hll_tree.specs.declared.tree.Quant.{Quant}
 use Rattle.hll_tree.specs.declared.tree.Reach.{Reach}
-use Rattle.hll_tree.specs.Meaning.{is_boolean, is_boolean_op}
-use Rattle.hll_tree.proofs.Values.{is_boolean-number, is_boolean-truth, is_boolean-path, is_boolean-reaching, is_boolean-compare, is_boolean-minus, is_boolean-not, is_boolean-choice, is_boolean-group, is_boolean-quant, is_boolean-pre, is_boolean-least, is_boolean-greatest, is_boolean-size, is_boolean-starting, is_boolean-within, is_boolean-chain}
+use Rattle.hll_cli.specs.BooleanTexts.{is_boolean, is_boolean_op}
+use Rattle.hll_cli.proofs.RowValues.{is_boolean-number, is_boolean-truth, is_boolean-path, is_boolean-reaching, is_boolean-compare, is_boolean-minus, is_boolean-not, is_boolean-choice, is_boolean-group, is_boolean-quant, is_boolean-pre, is_boolean-least, is_boolean-greatest, is_boolean-size, is_boolean-starting, is_boolean-within, is_boolean-chain}
 use Rattle.hll_cli.specs.Accepted.{is_boolean_link}
 
 pub boolean_number : (e : Expr) (n : ℤ) → e.form ≡ Number n → is_boolean e ≡ false

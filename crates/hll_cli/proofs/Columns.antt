@@ -7,9 +7,9 @@ use Rattle.hll_tree.specs.declared.tree.Link.{Link}
 use Rattle.hll_tree.specs.declared.tree.Name.{Name}
 use Rattle.hll_tree.specs.declared.tree.Reach.{Reach}
 use Rattle.hll_tree.specs.declared.tree.Op.{Op}
-use Rattle.hll_tree.specs.Meaning.{value_in, value_at, chain_value, names_in, UsesOnly}
-use Rattle.hll_tree.proofs.Values.{link_value, value_in-truth, value_in-path, value_in-not, value_in-chain, names_in-truth, names_in-path, names_in-not, names_in-chain}
-use Rattle.hll_cli.specs.Table.{row, IsColumn}
+use Rattle.hll_cli.specs.BooleanTexts.{names_in, UsesOnly}
+use Rattle.hll_cli.proofs.RowValues.{link_value, value_in-truth, value_in-path, value_in-not, value_in-chain, names_in-truth, names_in-path, names_in-not, names_in-chain}
+use Rattle.hll_cli.specs.Table.{value_in, value_at, chain_value, row, IsColumn}
 use Rattle.hll_cli.proofs.Rows.{length-row}
 use Rattle.std.proofs.lemmas.List.{take-append-le}
 use Rattle.std.proofs.Math.Seq.{take-length}

@@ -1,5 +1,5 @@
 -- A text that a command answers for isn't refused; what a status says of the words and of what is written.
-use Rattle.std.proofs.Common.{arith, ◌≡◌, ℕ, suc, ◌<◌, ◌≤◌, List, [], ◌∷◌, ◌++◌, length, Option, Some, None, IfSome, refl, sym, ◌∙◌, ap, subst, inl, inr, ◌⊎◌}
+use Rattle.std.proofs.Common.{arith, ◌≡◌, ℕ, suc, ◌<◌, List, [], ◌∷◌, ◌++◌, length, Option, Some, None, IfSome, refl, sym, ◌∙◌, ap, subst, inl, inr, ◌⊎◌}
 use Rattle.std.specs.Option.{IsSomeAnd}
 use Rattle.std.proofs.lemmas.List.{append-nil}
 use Rattle.command_line.specs.Words.{Request, Prove, Format, model_of}
@@ -7,11 +7,10 @@ use Rattle.ports.specs.Causes.{Rose, Counts}
 use Rattle.ports.specs.Contents.{Files, Tells}
 use Rattle.hll_lexer.specs.declared.fault.LexFault.TheVariants as lexing
 use Rattle.hll_lexer.specs.declared.token.Token.{Token}
-use Rattle.hll_lexer.specs.Tokens.{Splits}
 use Rattle.hll_lexer.proofs.SplitLemmas.{one_split, split_or_fault}
 use Rattle.hll_tree.specs.declared.tree.HllModel.{HllModel}
 use Rattle.hll_tree.specs.Spells.{at_most_before, SpellsUnder, Spells}
-use Rattle.hll_tree.specs.Prefixes.{Extends, IsUnexpected, IsDeep}
+use Rattle.hll_tree.specs.Prefixes.{Extends}
 use Rattle.hll_grammar.proofs.Within.{within_spells, within_before}
 use Rattle.hll_cli.specs.declared.answer.Status.{Status}
 use Rattle.hll_cli.specs.declared.answer.Status.TheVariants as status
@@ -19,7 +18,7 @@ use Rattle.hll_cli.specs.declared.fault.Mistake.{Mistake}
 use Rattle.hll_cli.specs.declared.fault.Mistake.TheVariants.{Stray, Unclosed, Number, Unexpected, Deep}
 use Rattle.hll_cli.specs.declared.fault.Refusal.{Refusal}
 use Rattle.hll_cli.specs.declared.fault.Refusal.TheVariants.{Unread, Long, Misplaced, Unbuilt}
-use Rattle.hll_cli.specs.Accepted.{IsSpelled, IsAccepted}
+use Rattle.hll_cli.specs.Accepted.{IsSpelled}
 use Rattle.hll_cli.specs.Answers.{code_of, IsAnswer, IsStatus, IsReported, IsDone, HasAnswer, Ends, Writes}
 use Rattle.hll_cli.specs.Faults.{status_of}
 use Rattle.hll_cli.specs.Format.{HasModel}

@@ -1,31 +1,31 @@
 -- When a text isn't of the forms that are built, and what a report on one that is needs.
 use Rattle.std.proofs.Common.{◌≡◌, ℕ, suc, ◌<◌, ◌≤◌, ◌++◌, List, [], ◌∷◌, length, Bool, true, false, refl, arith, ap, sym, ◌∙◌, subst}
-use Rattle.std.specs.Prelude.{◌&&◌}
 use Rattle.std.proofs.lemmas.Bool.{false≢true}
-use Rattle.std.specs.List.{AllByRecursion, IsDistinct, list_any, list_all, flat_map}
+use Rattle.std.specs.List.{AllByRecursion, AllZip, IsDistinct, list_any, list_all, flat_map}
 use Rattle.std.specs.Str.{bytes_eq}
 use Rattle.hll_tree.specs.declared.tree.Expr.{Expr}
 use Rattle.hll_tree.specs.declared.tree.HllModel.{HllModel}
 use Rattle.hll_tree.specs.declared.tree.Section.{Section}
 use Rattle.hll_tree.specs.declared.tree.Section.TheVariants as section
-use Rattle.hll_tree.specs.Meaning.{variables, obligations, obligations_in, constraints, constraints_in, is_boolean, UsesOnly}
+use Rattle.hll_tree.specs.Spells.{at_most}
+use Rattle.hll_meaning.specs.Runs.{obligations, obligations_in}
+use Rattle.hll_cli.specs.BooleanTexts.{input_names, is_boolean, UsesOnly}
 use Rattle.hll_cli.specs.declared.fault.Refusal.TheVariants.{Unbuilt}
 use Rattle.hll_cli.specs.Prove.{IsTextRefusal}
+use Rattle.hll_cli.proofs.BuiltTexts.{and_both, all_inputs}
 use Rattle.hll_cli.proofs.Columns.{all_append}
+use Rattle.hll_cli.proofs.SpelledValues.{spelled_agree}
+use Rattle.hll_cli.proofs.TableVerdicts.{are_right}
 use Rattle.hll_cli.specs.declared.verdict.Verdict.{Verdict}
 use Rattle.hll_cli.specs.Accepted.{is_built_section, is_built, IsSpelled, IsAccepted}
-use Rattle.hll_cli.specs.Report.{IsReport, AreRight, is_falsified, obligations_text, counts_text}
-
-and_both : (a b : Bool) → (a && b) ≡ true → (a ≡ true) × (b ≡ true)
-and_both true true h = (refl, refl)
-and_both true false h = (refl, h)
-and_both false b h = (h, absurd (false≢true h))
+use Rattle.hll_cli.specs.Report.{IsReport, is_falsified, obligations_text, counts_text}
+use Rattle.hll_cli.specs.Table.{IsDecidedBy}
 
 all_true : {A : Type 0} (p : A → Bool) (xs : List A) → list_all p xs ≡ true → AllByRecursion (λ x. p x ≡ true) xs
 all_true p [] h = tt
 all_true p (x ∷ xs) h = let both = and_both (p x) (list_all p xs) h in (both.0, all_true p xs both.1)
 
--- what is built is Boolean, and has no constraint
+-- what is built is Boolean
 section_boolean : (x : Section) → is_built_section x ≡ true → AllByRecursion (λ e. is_boolean e ≡ true) (obligations_in x)
 section_boolean (section.Constants xs) built = absurd (false≢true built)
 section_boolean (section.Types xs) built = absurd (false≢true built)
@@ -35,26 +35,11 @@ section_boolean (section.Definitions xs) built = absurd (false≢true built)
 section_boolean (section.Constraints xs) built = absurd (false≢true built)
 section_boolean (section.Obligations es) built = all_true is_boolean es built
 
-section_unconstrained : (x : Section) → is_built_section x ≡ true → constraints_in x ≡ []
-section_unconstrained (section.Constants xs) built = refl
-section_unconstrained (section.Types xs) built = refl
-section_unconstrained (section.Inputs xs) built = refl
-section_unconstrained (section.Declarations xs) built = refl
-section_unconstrained (section.Definitions xs) built = refl
-section_unconstrained (section.Constraints xs) built = absurd (false≢true built)
-section_unconstrained (section.Obligations es) built = refl
-
 sections_boolean : (xs : List Section) → list_all is_built_section xs ≡ true → AllByRecursion (λ e. is_boolean e ≡ true) (flat_map obligations_in xs)
 sections_boolean [] built = tt
 sections_boolean (x ∷ xs) built =
     let both = and_both (is_built_section x) (list_all is_built_section xs) built in
     all_append (λ e. is_boolean e ≡ true) (obligations_in x) (flat_map obligations_in xs) (section_boolean x both.0) (sections_boolean xs both.1)
-
-sections_unconstrained : (xs : List Section) → list_all is_built_section xs ≡ true → flat_map constraints_in xs ≡ []
-sections_unconstrained [] built = refl
-sections_unconstrained (x ∷ xs) built =
-    let both = and_both (is_built_section x) (list_all is_built_section xs) built in
-    ap (λ ys. ys ++ flat_map constraints_in xs) (section_unconstrained x both.0) ∙ sections_unconstrained xs both.1
 
 -- what is known of the one reading of a text
 abbrev pub IsOnly : List ℕ → HllModel → ℕ → Type 0
@@ -74,12 +59,9 @@ module _ (text : List ℕ) (m : HllModel) (count : ℕ) (spelled : (is : IsSpell
   pub built_boolean : is_built m ≡ true → AllByRecursion (λ e. is_boolean e ≡ true) (obligations m)
   built_boolean built = sections_boolean m.sections built
 
-  pub built_unconstrained : is_built m ≡ true → constraints m ≡ []
-  built_unconstrained built = sections_unconstrained m.sections built
-
-  module _ (names : List (List ℕ)) (are : names ≡ variables m) where
-    same_names : (other : HllModel) → IsAccepted text other → variables other ≡ names
-    same_names other accepted = ap variables (only other accepted.spelled).0 ∙ sym are
+  module _ (names : List (List ℕ)) (are : names ≡ input_names m) where
+    same_names : (other : HllModel) → IsAccepted text other → input_names other ≡ names
+    same_names other accepted = ap input_names (only other accepted.spelled).0 ∙ sym are
 
     pub too_many : 12 < length names → IsTextRefusal text Unbuilt
     too_many many = unbuilt (λ other accepted.
@@ -108,20 +90,24 @@ module _ (text : List ℕ) (m : HllModel) (count : ℕ) (spelled : (is : IsSpell
       declared = rw (sym are, sym asked) declared;
     }
 
-    pub report_of : IsAccepted text m → (es : List Expr) (verdicts : List Verdict) (output : List ℕ) (falsified : Bool) → es ≡ obligations m → AreRight m es verdicts →
+    pub report_of : IsAccepted text m → (es : List Expr) (verdicts : List Verdict) (output : List ℕ) (falsified : Bool) → es ≡ obligations m → AllZip (IsDecidedBy names) es verdicts →
         output ≡ obligations_text text names 1 es verdicts ++ counts_text verdicts → falsified ≡ list_any is_falsified verdicts → IsReport text output falsified
-    report_of accepted es verdicts output falsified asked right printed any = record {
+    report_of accepted es verdicts output falsified asked decided printed any = record {
       model = m;
       accepted = accepted;
+      all_inputs = all_inputs m accepted.built;
       verdicts = verdicts;
-      right = rw (sym asked) right;
-      printed = printed ∙ ap (λ ns. obligations_text text ns 1 es verdicts ++ counts_text verdicts) are ∙ ap (λ xs. obligations_text text (variables m) 1 xs verdicts ++ counts_text verdicts) asked;
+      right =
+          are_right m accepted.built (obligations m) verdicts
+          (spelled_agree text accepted.spelled.tokens m (at_most 200) (input_names m) accepted.spelled.split accepted.spelled.spelled)
+          (built_boolean accepted.built) accepted.declared (rw (sym asked, sym are) decided);
+      printed = printed ∙ ap (λ ns. obligations_text text ns 1 es verdicts ++ counts_text verdicts) are ∙ ap (λ xs. obligations_text text (input_names m) 1 xs verdicts ++ counts_text verdicts) asked;
       any_falsified = any;
     }
 
--- there are as many right verdicts as obligations
-pub as_many : (m : HllModel) (es : List Expr) (vs : List Verdict) → AreRight m es vs → length es ≡ length vs
-as_many m [] [] right = refl
-as_many m (e ∷ es) (v ∷ vs) right = ap suc (as_many m es vs right.1)
-as_many m [] (v ∷ vs) right = absurd right
-as_many m (e ∷ es) [] right = absurd right
+-- there are as many verdicts as obligations
+pub as_many : (names : List (List ℕ)) (es : List Expr) (vs : List Verdict) → AllZip (IsDecidedBy names) es vs → length es ≡ length vs
+as_many names [] [] decided = refl
+as_many names (e ∷ es) (v ∷ vs) decided = ap suc (as_many names es vs decided.1)
+as_many names [] (v ∷ vs) decided = absurd decided
+as_many names (e ∷ es) [] decided = absurd decided

@@ -9,3 +9,9 @@ pub mod Booleans
 pub mod MistakeLemmas
 pub mod Refusals
 pub mod Completeness
+pub mod RowValues
+pub mod Places
+pub mod BuiltTexts
+pub mod TruthValues
+pub mod SpelledValues
+pub mod TableVerdicts

@@ -1,5 +1,5 @@
 -- Where the mistakes of a text stand, and that a text has one reading.
-use Rattle.std.proofs.Common.{arith, ◌≡◌, ℕ, zero, suc, ◌≤◌, ◌+◌, List, [], ◌∷◌, ◌++◌, length, ap, sym, ◌∙◌, subst, refl}
+use Rattle.std.proofs.Common.{arith, ◌≡◌, ℕ, ◌≤◌, List, [], ◌∷◌, ◌++◌, length, ap, sym, subst}
 use Rattle.hll_lexer.proofs.FaultLemmas.{fault_within}
 use Rattle.hll_lexer.specs.declared.fault.LexFault.TheVariants as lexing
 use Rattle.hll_lexer.specs.declared.token.Token.{Token}
@@ -8,9 +8,9 @@ use Rattle.hll_tree.specs.Prefixes.{IsUnexpected, IsDeep, begin_of}
 use Rattle.std.specs.List.{AllByRecursion}
 use Rattle.hll_lexer.proofs.OrderLemmas.{tokens_in_order}
 use Rattle.hll_tree.specs.declared.tree.HllModel.{HllModel}
-use Rattle.hll_tree.specs.Meaning.{obligations}
+use Rattle.hll_meaning.specs.Runs.{obligations}
 use Rattle.hll_tree.specs.Spells.{at_most, SpellsWithin, Spells}
-use Rattle.hll_tree.proofs.Places.{places_within}
+use Rattle.hll_cli.proofs.Places.{places_within}
 use Rattle.hll_grammar.specs.Unread.{AreWithin}
 use Rattle.hll_grammar.specs.declared.fault.SyntaxFault.{SyntaxFault}
 use Rattle.hll_grammar.specs.declared.fault.SyntaxFault.TheVariants as parsing

@@ -1,10 +1,10 @@
 -- A refusal that is handed on.
-use Rattle.std.proofs.Common.{◌≡◌, ℕ, List, sym, subst, ap, Result, Ok, Err}
+use Rattle.std.proofs.Common.{◌≡◌, ℕ, List, subst, ap, Result, Ok, Err}
 use Rattle.hll_cli.specs.declared.decision.Decided.{Decided}
 use Rattle.hll_cli.specs.declared.fault.Fault.{Fault}
 use Rattle.hll_cli.specs.declared.fault.Fault.TheVariants.{Refused, Memory}
 use Rattle.hll_cli.specs.declared.fault.Refusal.{Refusal}
-use Rattle.hll_cli.specs.declared.fault.Refusal.TheVariants.{Unread, Long, Misplaced, Unbuilt}
+use Rattle.hll_cli.specs.declared.fault.Refusal.TheVariants.{Unbuilt}
 use Rattle.hll_cli.specs.Prove.{IsTextRefusal}
 
 -- which refusal a result is, if it is one

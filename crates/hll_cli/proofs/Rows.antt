@@ -4,8 +4,7 @@ use Rattle.std.specs.Str.{bytes_eq}
 use Rattle.std.proofs.lemmas.Slice.Eq.{bytes_eq-Decides}
 use Rattle.std.proofs.lemmas.List.{get_or_default, take_more, take_all}
 use Rattle.std.proofs.Math.Nat.{div-one, div-div-eq-div-mul, pow-succ'}
-use Rattle.hll_tree.specs.Meaning.{value_at}
-use Rattle.hll_cli.specs.Table.{row}
+use Rattle.hll_cli.specs.Table.{value_at, row}
 
 -- the variable at the first position of its name has the value at that position
 pub value_at-first : (ns : List (List ℕ)) (values : List Bool) (name : List ℕ) (i : ℕ) → i < length ns →

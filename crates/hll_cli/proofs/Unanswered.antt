@@ -6,7 +6,7 @@ use Rattle.hll_cli.specs.declared.fault.Refusal.{Refusal}
 use Rattle.hll_cli.specs.declared.fault.Refusal.TheVariants.{Unread, Long, Misplaced, Unbuilt}
 use Rattle.hll_cli.specs.Prove.{IsTextRefusal}
 use Rattle.hll_cli.specs.Reading.{DeskView, IsRead, view_of, text_limit}
-use Rattle.hll_cli.specs.Texts.{IsMisspelled, IsRefusedText, IsUnanswered}
+use Rattle.hll_cli.specs.Texts.{IsMisspelled, IsUnanswered}
 
 -- the told bytes of a file that was read
 file_is : (told now : Option Files) (name text : List ℕ) → Tells told now (λ b a. SameFiles b a × ((b name ≡ Some text) × (length text ≤ text_limit))) → IfSome told (λ files. files name ≡ Some text)

@@ -7,14 +7,14 @@ use Rattle.hll_lexer.specs.Tokens.{Splits}
 use Rattle.hll_tree.specs.declared.tree.HllModel.{HllModel}
 use Rattle.hll_tree.specs.Spells.{SpellsWithin}
 use Rattle.hll_tree.specs.declared.tree.Decl.{Decl}
-use Rattle.hll_tree.specs.declared.tree.Declarator.{Declarator}
 use Rattle.hll_tree.specs.declared.tree.Expr.{Expr}
 use Rattle.hll_tree.specs.declared.tree.Link.{Link}
 use Rattle.hll_tree.specs.declared.tree.Section.{Section}
 use Rattle.hll_tree.specs.declared.tree.Section.TheVariants as section
 use Rattle.hll_tree.specs.declared.tree.TypeText.{TypeText}
 use Rattle.hll_tree.specs.declared.tree.TypeText.TheVariants as ty
-use Rattle.hll_tree.specs.Meaning.{variables, obligations, is_boolean_op, is_boolean, UsesOnly}
+use Rattle.hll_meaning.specs.Runs.{obligations}
+use Rattle.hll_cli.specs.BooleanTexts.{input_names, is_boolean_op, is_boolean, UsesOnly}
 
 -- how many tokens a text has at most
 abbrev pub token_limit : ℕ
@@ -75,6 +75,6 @@ pub record IsAccepted (text : List ℕ) (m : HllModel) : Type 0 where
   pub spelled : IsSpelled text m
   pub few_tokens : length spelled.tokens ≤ token_limit
   pub built : is_built m ≡ true
-  pub few_inputs : length (variables m) ≤ input_limit
-  pub distinct : IsDistinct bytes_eq (variables m)
-  pub declared : AllByRecursion (UsesOnly (variables m)) (obligations m)
+  pub few_inputs : length (input_names m) ≤ input_limit
+  pub distinct : IsDistinct bytes_eq (input_names m)
+  pub declared : AllByRecursion (UsesOnly (input_names m)) (obligations m)

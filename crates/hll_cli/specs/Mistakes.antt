@@ -1,5 +1,5 @@
 -- Words for the contracts of private parts: what the layers below say of a text that spells no model.
-use Rattle.std.specs.Prelude.{◌≡◌, ℕ, List}
+use Rattle.std.specs.Prelude.{ℕ, List}
 use Rattle.hll_lexer.specs.declared.fault.LexFault.{LexFault}
 use Rattle.hll_lexer.specs.declared.fault.LexFault.TheVariants as lexing
 use Rattle.hll_lexer.specs.declared.token.Token.{Token}

@@ -1,22 +1,33 @@
 -- The report: what is printed of each obligation, and what that means.
-use Rattle.std.specs.Prelude.{◌≡◌, ℕ, suc, ◌-◌, Bool, true, false, List, [], ◌∷◌, ◌++◌, length, count_by, codes}
+use Rattle.std.specs.Prelude.{◌≡◌, ℕ, suc, ◌-◌, Bool, true, false, List, [], ◌∷◌, ◌++◌, length, map, count_by, codes}
 use Rattle.std.specs.Fmt.{decimal}
 use Rattle.std.specs.List.{list_any}
 use Rattle.hll_lexer.specs.Place.{place_of}
 use Rattle.hll_tree.specs.declared.tree.Expr.{Expr}
 use Rattle.hll_tree.specs.declared.tree.HllModel.{HllModel}
-use Rattle.hll_tree.specs.Meaning.{Instant, History, variables, obligations, Holds, IsShortest}
+use Rattle.hll_meaning.specs.Values.{Instant, History, of_truth}
+use Rattle.hll_meaning.specs.Runs.{variables, obligations, Holds, IsShortest}
 use Rattle.hll_cli.specs.declared.verdict.Verdict.{Verdict}
 use Rattle.hll_cli.specs.declared.verdict.Verdict.TheVariants.{Proved, Falsified}
 use Rattle.hll_cli.specs.Accepted.{IsAccepted}
+use Rattle.hll_cli.specs.BooleanTexts.{input_names}
 use Rattle.hll_cli.specs.Lines.{line_feed, truth_text, heading_text, totals_text}
 
 -- ---- what a verdict means
 
--- proved: it is true at the last instant of every run that meets the constraints; falsified: the trace's run is a shortest one that breaks it
+-- the instant with these values of the inputs, each as its number, where all variables are inputs
+abbrev pub instant_of : List Bool → Instant
+instant_of = map of_truth
+
+-- the run with the inputs of a trace
+abbrev pub run_of : List (List Bool) → History
+run_of = map instant_of
+
+-- proved: it is true at the last instant of every run that meets the constraints; falsified: the run with the inputs of the trace
+-- is a shortest one that breaks it
 abbrev pub IsRight : HllModel → Expr → Verdict → Type 0
 IsRight m e (Proved k) = (k ≡ 1) × Holds m e
-IsRight m e (Falsified trace) = IsShortest m e trace
+IsRight m e (Falsified trace) = IsShortest m e (run_of trace)
 
 -- a right verdict for each obligation, in order
 abbrev pub AreRight : HllModel → List Expr → List Verdict → Type 0
@@ -37,17 +48,17 @@ unfoldable pub value_text : List ℕ → Bool → List ℕ
 value_text name x = codes " " ++ name ++ codes "=" ++ truth_text x
 
 -- each input with its value
-abbrev pub values_text : List (List ℕ) → Instant → List ℕ
+abbrev pub values_text : List (List ℕ) → List Bool → List ℕ
 values_text [] values = []
 values_text (name ∷ names) [] = []
 values_text (name ∷ names) (x ∷ xs) = value_text name x ++ values_text names xs
 
 -- the line of an instant: its time and its values
-unfoldable pub instant_text : List (List ℕ) → ℕ → Instant → List ℕ
+unfoldable pub instant_text : List (List ℕ) → ℕ → List Bool → List ℕ
 instant_text names t values = decimal t ++ codes ":" ++ values_text names values ++ line_feed
 
 -- a line for each instant, from a time on
-abbrev pub trace_text : List (List ℕ) → ℕ → History → List ℕ
+abbrev pub trace_text : List (List ℕ) → ℕ → List (List Bool) → List ℕ
 trace_text names t [] = []
 trace_text names t (values ∷ more) = instant_text names t values ++ trace_text names (suc t) more
 
@@ -71,12 +82,13 @@ counts_text verdicts =
 
 -- the whole report: the obligations with their verdicts, and the counts
 abbrev pub report_text : List ℕ → HllModel → List Verdict → List ℕ
-report_text text m verdicts = obligations_text text (variables m) 1 (obligations m) verdicts ++ counts_text verdicts
+report_text text m verdicts = obligations_text text (input_names m) 1 (obligations m) verdicts ++ counts_text verdicts
 
--- the report on a text: a right verdict for each obligation, and what is printed of them
+-- the report on a text: all its variables are inputs, there is a right verdict for each obligation, and this is printed of them
 pub record IsReport (text : List ℕ) (output : List ℕ) (falsified : Bool) : Type 0 where
   pub model : HllModel
   pub accepted : IsAccepted text model
+  pub all_inputs : map (λ x. x.0) (variables model) ≡ input_names model
   pub verdicts : List Verdict
   pub right : AreRight model (obligations model) verdicts
   pub printed : output ≡ report_text text model verdicts

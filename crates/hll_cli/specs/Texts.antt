@@ -3,7 +3,6 @@ use Rattle.std.specs.Prelude.{◌≡◌, ℕ, List, length, ◌≤◌, Some}
 use Rattle.ports.specs.Causes.{Rose}
 use Rattle.ports.specs.Contents.{Files}
 use Rattle.hll_lexer.specs.declared.fault.LexFault.TheVariants as lexing
-use Rattle.hll_lexer.specs.declared.places.LineColumn.{LineColumn}
 use Rattle.hll_lexer.specs.declared.token.Token.{Token}
 use Rattle.hll_lexer.specs.Place.{place_of}
 use Rattle.hll_lexer.specs.Tokens.{Splits, HasFault}

@@ -1,7 +1,7 @@
 //! Which models are of the forms that are built.
 
 ghost use Rattle.std.specs.Prelude.{◌≡◌};
-ghost use Rattle.hll_tree.specs.Meaning.{is_boolean_op as is_boolean_operator, is_boolean as is_boolean_expression};
+ghost use Rattle.hll_cli.specs.BooleanTexts.{is_boolean_op as is_boolean_operator, is_boolean as is_boolean_expression};
 ghost use Rattle.std.specs.List.{list_all};
 ghost use Rattle.hll_cli.specs.Accepted.{is_boolean_link, is_single, is_bool as is_bool_type, is_boolean_decl, is_built_section, is_built as is_built_model};
 

@@ -3,7 +3,8 @@
 ghost use Rattle.std.specs.Prelude.{◌≡◌, ℕ, ◌≤◌, ◌<◌, ◌++◌, List, length, map, IsTrue, ◌↔◌, IfOk, OnOk};
 ghost use Rattle.std.specs.List.{flat_map, IsDistinct};
 ghost use Rattle.std.specs.Str.{bytes_eq};
-ghost use Rattle.hll_tree.specs.Meaning.{declared_names, variables_in, variables, obligations_in, obligations};
+ghost use Rattle.hll_meaning.specs.Runs.{obligations_in, obligations};
+ghost use Rattle.hll_cli.specs.BooleanTexts.{declared_names, input_names_in, input_names};
 
 use crate::table::position;
 use hll_tree::{Decl, Expr, HllModel, Section};
@@ -21,7 +22,7 @@ fn push_names<'a>(names: &mut Vec<&'a [u8]>, decl: &'a Decl) -> Result<(), Alloc
 
 /// Appends the names of the inputs that a section declares.
 fn push_inputs<'a>(names: &mut Vec<&'a [u8]>, section: &'a Section) -> Result<(), AllocError>
-    ensures { OnOk result (map (λ n. n.now) names.new.items ≡ map (λ n. n.now) names.old.items ++ variables_in section.now) }
+    ensures { OnOk result (map (λ n. n.now) names.new.items ≡ map (λ n. n.now) names.old.items ++ input_names_in section.now) }
 {
     match section {
         Section::Inputs(decls) => {
@@ -41,7 +42,7 @@ fn push_inputs<'a>(names: &mut Vec<&'a [u8]>, section: &'a Section) -> Result<()
 
 /// The names of the inputs, in text order.
 pub fn inputs(alloc: Global, model: &HllModel) -> Result<Vec<&[u8]>, AllocError>
-    ensures { IfOk result (λ names. map (λ n. n.now) names.items ≡ variables model.now) }
+    ensures { IfOk result (λ names. map (λ n. n.now) names.items ≡ input_names model.now) }
 {
     let mut names = Vec::new(alloc);
     for section in model.sections.as_slice() {

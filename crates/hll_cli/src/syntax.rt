@@ -4,7 +4,7 @@ ghost use Rattle.std.specs.Prelude.{◌≡◌, ℕ, ◌≤◌, List, length, IfO
 ghost use Rattle.std.specs.List.{AllByRecursion};
 ghost use Rattle.hll_lexer.specs.Place.{place_of};
 ghost use Rattle.hll_tree.specs.declared.tree.HllModel.{HllModel};
-ghost use Rattle.hll_tree.specs.Meaning.{obligations};
+ghost use Rattle.hll_meaning.specs.Runs.{obligations};
 ghost use Rattle.hll_cli.specs.Accepted.{IsSpelled};
 ghost use Rattle.hll_cli.specs.Texts.{IsMisspelled};
 ghost use Rattle.hll_cli.specs.Mistakes.{IsFault, IsSyntaxFault};

@@ -3,9 +3,9 @@
 ghost use Rattle.std.specs.Prelude.{◌≡◌, ℕ, ◌≤◌, ◌<◌, ◌^◌, List, ◌∷◌, length, map, Contains, IfSome, IfNone, OnSome, IfOk, Bool, true, false, not, ◌||◌};
 ghost use Rattle.std.specs.List.{slice_index_or};
 ghost use Rattle.hll_tree.specs.declared.tree.Op.{Op};
-ghost use Rattle.hll_tree.specs.Meaning.{UsesOnly, value_at, chain_value, is_boolean_op as is_boolean_operator, is_boolean};
+ghost use Rattle.hll_cli.specs.BooleanTexts.{UsesOnly, is_boolean_op as is_boolean_operator, is_boolean};
 ghost use Rattle.hll_cli.specs.Accepted.{input_limit};
-ghost use Rattle.hll_cli.specs.Table.{row, IsColumn};
+ghost use Rattle.hll_cli.specs.Table.{value_at, chain_value, row, IsColumn};
 
 use crate::built::is_boolean_op;
 use hll_tree::{Expr, Form, Op};

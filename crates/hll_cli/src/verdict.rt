@@ -1,12 +1,10 @@
 //! Verdicts on obligations, by a truth table for each.
 
 ghost use Rattle.std.specs.Prelude.{◌≡◌, ℕ, ◌≤◌, ◌<◌, List, [], ◌∷◌, length, map, IfSome, IfNone, OnSome, IfOk, false, true};
-ghost use Rattle.std.specs.List.{slice_index_or, AllByRecursion};
-ghost use Rattle.hll_tree.specs.declared.tree.HllModel.{HllModel};
-ghost use Rattle.hll_tree.specs.Meaning.{variables, constraints, is_boolean, UsesOnly};
+ghost use Rattle.std.specs.List.{slice_index_or, AllByRecursion, AllZip};
+ghost use Rattle.hll_cli.specs.BooleanTexts.{is_boolean, UsesOnly};
 ghost use Rattle.hll_cli.specs.Accepted.{input_limit};
-ghost use Rattle.hll_cli.specs.Report.{IsRight, AreRight};
-ghost use Rattle.hll_cli.specs.Table.{row};
+ghost use Rattle.hll_cli.specs.Table.{row, IsDecidedBy};
 
 use crate::table::column;
 use hll_tree::Expr;
@@ -59,8 +57,7 @@ fn verdict_on(
     obligation: &Expr,
 ) -> Result<Option<Verdict>, AllocError>
     requires { length names.now ≤ input_limit }
-    ensures right { IfOk result (λ found. IfSome found (λ v. (m : HllModel) →
-        variables m ≡ map (λ n. n.now) names.now → constraints m ≡ [] → IsRight m obligation.now v)) }
+    ensures decided { IfOk result (λ found. IfSome found (IsDecidedBy (map (λ n. n.now) names.now) obligation.now)) }
     ensures declared { IfOk result (λ found. OnSome found (UsesOnly (map (λ n. n.now) names.now) obligation.now)) }
     ensures unknown { IfOk result (λ found. IfNone found
         (is_boolean obligation.now ≡ true → UsesOnly (map (λ n. n.now) names.now) obligation.now → ⊥)) }
@@ -84,8 +81,8 @@ pub fn verdicts(
     obligations: &[&Expr],
 ) -> Result<Option<Items<Verdict>>, AllocError>
     requires { length names.now ≤ input_limit }
-    ensures right { IfOk result (λ found. IfSome found (λ vs. (m : HllModel) →
-        variables m ≡ map (λ n. n.now) names.now → constraints m ≡ [] → AreRight m (map (λ e. e.now) obligations.now) vs)) }
+    ensures decided { IfOk result (λ found. IfSome found
+        (AllZip (IsDecidedBy (map (λ n. n.now) names.now)) (map (λ e. e.now) obligations.now))) }
     ensures declared { IfOk result (λ found. OnSome found
         (AllByRecursion (UsesOnly (map (λ n. n.now) names.now)) (map (λ e. e.now) obligations.now))) }
     ensures unknown { IfOk result (λ found. IfNone found

@@ -1,5 +1,3 @@
-pub mod Values
-pub mod Places
 pub mod Printed
 pub mod PrintedLevels
 pub mod PrintedTexts

@@ -1,10 +1,10 @@
-//! The tree of a text, with its grammar as a relation, its meaning and its layout.
+//! The tree of a text, with its grammar as a relation and its layout.
 //!
 //! Contracts see a tree as plain data: a list as its items and a box as what it holds. `specs/Spells.antt`
-//! says which tokens spell a tree, `specs/Meaning.antt` what its expressions are worth in a history,
-//! `specs/Printing.antt` how it is printed.
+//! says which tokens spell a tree, `specs/Printing.antt` how it is printed.
 #![tactic(auto)]
 
+mod copies;
 mod expressions;
 mod laws;
 mod printer;

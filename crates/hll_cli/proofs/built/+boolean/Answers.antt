@@ -1,4 +1,3 @@
-use Rattle.std.proofs.Common.{◌≡◌, sym, ◌∙◌, ap}
 use Rattle.hll_cli.proofs.Booleans.{path_boolean, chain_true, chain_false}
 use Rattle.hll_cli.proofs.built.+boolean.Goals as goal
 

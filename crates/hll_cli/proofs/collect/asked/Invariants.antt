@@ -1,6 +1,6 @@
 use Rattle.std.proofs.Common.{◌≡◌, map, take}
 use Rattle.std.specs.List.{flat_map}
-use Rattle.hll_tree.specs.Meaning.{obligations_in}
+use Rattle.hll_meaning.specs.Runs.{obligations_in}
 use Rattle.hll_cli.proofs.collect.asked.Given as goal
 
 abbrev pub invariant-loop-section : goal.invariant-loop-section

@@ -1,6 +1,6 @@
 use Rattle.std.proofs.Common.{◌≡◌, ◌++◌, map, take}
 use Rattle.std.specs.List.{flat_map}
-use Rattle.hll_tree.specs.Meaning.{declared_names}
+use Rattle.hll_cli.specs.BooleanTexts.{declared_names}
 use Rattle.hll_cli.proofs.collect.push_inputs.Given as goal
 
 abbrev pub invariant-loop-decl : goal.invariant-loop-decl

@@ -1,8 +1,8 @@
-use Rattle.std.proofs.Common.{◌≡◌, ◌≤◌, length, map, sym, ap, ◌∙◌, arith, rules}
+use Rattle.std.proofs.Common.{◌≤◌, length, map, sym, ap, ◌∙◌, arith, rules}
 use Rattle.std.proofs.lemmas.List.{length-map}
 use Rattle.std.proofs.lemmas.Bool.{false≢true}
 use Rattle.hll_cli.specs.Texts.{IsMisspelled}
-use Rattle.hll_cli.proofs.Decisions.{too_long, other_form, too_many, repeated, undeclared, accepted_text, built_unconstrained, report_of, as_many}
+use Rattle.hll_cli.proofs.Decisions.{too_long, other_form, too_many, repeated, undeclared, accepted_text, report_of, as_many}
 use Rattle.hll_cli.proofs.Refusals.{unbuilt_alone}
 use Rattle.hll_cli.proofs.Unanswered.{misspelled_undecided}
 use Rattle.hll_cli.proofs.decision.decide.Goals as goal
@@ -43,13 +43,14 @@ report-requires-clause-within c = rw (c.deref-5.ensures.value, c.in_ok-obligatio
 
 pub report-requires-clause-same : goal.report-requires-clause-same
 report-requires-clause-same c =
-    let right = rw (c.in-Some.is, c.deref-2.ensures.value, c.deref-3.ensures.value) at c.in_ok-verdicts.ensures.right in
-    let none = built_unconstrained _ _ _ c.in_ok-spelled.ensures.spelled c.in_ok-spelled.ensures.only (sym c.is_built.ensures ∙ c.if-not-is_built.false) in
-    ap length c.deref-5.ensures.value ∙ sym (length-map _ (λ e. e.now)) ∙ as_many c.in_ok-spelled.spelled.model _ _ (right c.in_ok-spelled.spelled.model (sym c.in_ok-names.ensures) none) ∙ ap length (sym c.as_slice.ensures)
+    let decided = rw (c.in-Some.is, c.deref-2.ensures.value, c.deref-3.ensures.value) at c.in_ok-verdicts.ensures.decided in
+    let es = map (λ e. e.now) c.in_ok-obligations.obligations.items in
+    ap length c.deref-5.ensures.value ∙ sym {a = length es} (length-map c.in_ok-obligations.obligations.items (λ e. e.now))
+    ∙ as_many (map (λ n. n.now) c.in_ok-names.names.items) es c.in-Some.verdicts decided ∙ ap length (sym c.as_slice.ensures)
 
 pub returns-clause-report : goal.returns-clause-report
 returns-clause-report c =
-    let right = rw (c.in-Some.is, c.deref-2.ensures.value, c.deref-3.ensures.value) at c.in_ok-verdicts.ensures.right in
+    let decided = rw (c.in-Some.is, c.deref-2.ensures.value, c.deref-3.ensures.value) at c.in_ok-verdicts.ensures.decided in
     let declared = rw (c.in-Some.is, c.deref-2.ensures.value, c.deref-3.ensures.value) at c.in_ok-verdicts.ensures.declared in
     let distinct = (rw c.deref.ensures.value at c.are_distinct.ensures).0 c.if-not-are_distinct.false in
     let long = length-map c.in_ok-names.names.items (λ n. n.now) in
@@ -61,8 +62,7 @@ returns-clause-report c =
     let are = c.in_ok-names.ensures in
     let asked = c.in_ok-obligations.ensures in
     let built = sym c.is_built.ensures ∙ c.if-not-is_built.false in
-    let none = built_unconstrained c.args.text.now m _ spelled only built in
     let accepted = accepted_text c.args.text.now m _ spelled only _ are c.if-spelled-gt-MAX_TOKENS.false built few distinct _ asked declared in
-    report_of c.args.text.now m _ spelled only _ are accepted _ c.in-Some.verdicts c.in_ok-output.output.items c.any_falsified-falsified.result asked (right m (sym are) none)
+    report_of c.args.text.now m _ spelled only _ are accepted _ c.in-Some.verdicts c.in_ok-output.output.items c.any_falsified-falsified.result asked decided
     (rw (c.deref-4.ensures.value, c.deref-5.ensures.value, c.as_slice.ensures) at c.in_ok-output.ensures)
     (rw c.as_slice-2.ensures at c.any_falsified-falsified.ensures)

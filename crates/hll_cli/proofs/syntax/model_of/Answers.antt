@@ -1,5 +1,4 @@
-use Rattle.std.proofs.Common.{◌≡◌, length, arith}
-use Rattle.hll_cli.specs.Accepted.{IsSpelled}
+use Rattle.std.proofs.Common.{arith}
 use Rattle.hll_grammar.proofs.Within.{within_spells}
 use Rattle.hll_cli.proofs.MistakeLemmas.{split_within, spelled_places, only_reading}
 use Rattle.hll_cli.proofs.syntax.model_of.Goals as goal

@@ -1,5 +1,3 @@
-use Rattle.std.proofs.Common.{◌≤◌, length, subst}
-use Rattle.hll_cli.specs.Mistakes.{IsSyntaxFault}
 use Rattle.hll_cli.proofs.MistakeLemmas.{unexpected_at, deep_at}
 use Rattle.hll_cli.proofs.syntax.syntactical.Goals as goal
 

@@ -1,7 +1,7 @@
 use Rattle.std.proofs.Common.{◌≡◌, ℕ, ◌≤◌, ◌<◌, List, ◌∷◌, Bool, false, ◌||◌}
 use Rattle.std.specs.List.{slice_index_or}
 use Rattle.hll_tree.specs.declared.tree.Op.{Op}
-use Rattle.hll_tree.specs.Meaning.{chain_value}
+use Rattle.hll_cli.specs.Table.{chain_value}
 use Rattle.hll_cli.proofs.table.take_links.Given as goal
 
 abbrev pub invariant-loop-row : goal.invariant-loop-row

@@ -1,4 +1,4 @@
--- The value of an expression, and whether it is Boolean, form by form.
+-- The value of an expression in a row, and whether it is Boolean, form by form.
 use Rattle.std.proofs.Common.{◌≡◌, ℕ, ℤ, Bool, true, false, not, Option, ◌&&◌, List, [], ◌∷◌, ◌++◌, map, refl, ap, ◌∙◌}
 use Rattle.std.specs.List.{list_all, flat_map}
 use Rattle.hll_tree.specs.declared.tree.Expr.{Expr, fold_out-Expr}
@@ -13,7 +13,9 @@ use Rattle.hll_tree.specs.declared.tree.Name.{Name}
 use Rattle.hll_tree.specs.declared.tree.Quant.{Quant}
 use Rattle.hll_tree.specs.declared.tree.Reach.{Reach}
 use Rattle.hll_tree.specs.declared.tree.Op.{Op}
-use Rattle.hll_tree.specs.Meaning.{form_value, value_in, chain_value, is_boolean, is_boolean_form, is_boolean_op, is_plain_path, form_names, names_in}
+use Rattle.hll_cli.specs.Accepted.{is_boolean_link}
+use Rattle.hll_cli.specs.BooleanTexts.{is_boolean, is_boolean_form, is_boolean_op, form_names, names_in}
+use Rattle.hll_cli.specs.Table.{form_value, value_in, chain_value}
 
 -- an operator beside the value of its right operand
 abbrev pub link_value : (List ℕ → Bool) → Link → Op × Bool
@@ -117,10 +119,6 @@ is_boolean-within e x i is = is_boolean-form e _ is ∙ fold_out-Form _ _ _ _ _ 
 pub is_boolean-starting : (e : Expr) → e.form ≡ Starting → is_boolean e ≡ false
 unfolding is_boolean_of_form
 is_boolean-starting e is = is_boolean-form e _ is ∙ fold_out-Form _ _ _ _ _ _ _ _ _ _ _ _ Starting ∙ rw outs-Starting refl
-
--- whether a link is Boolean
-abbrev pub is_boolean_link : Link → Bool
-is_boolean_link link = is_boolean_op link.op && is_boolean link.with
 
 pub is_boolean-chain : (e first : Expr) (links : List Link) → e.form ≡ Chain first links →
     is_boolean e ≡ (is_boolean first && list_all (λ link. link) (map is_boolean_link links))

@@ -1,36 +1,21 @@
 -- Every spelled expression has the place of one of its own tokens, so no place lies beyond all of them.
-use Rattle.std.proofs.Common.{◌≡◌, ℕ, zero, suc, ◌≤◌, List, [], ◌∷◌, ◌++◌, Option, Some, None, refl, inl, inr, ap, ◌∙◌, sym, subst}
+use Rattle.std.proofs.Common.{◌≡◌, ℕ, zero, suc, ◌≤◌, List, [], ◌∷◌, ◌++◌, Some, None, refl, inl, inr, ap, ◌∙◌, sym, subst}
 use Rattle.std.specs.List.{flat_map, AllByRecursion}
 use Rattle.hll_lexer.specs.declared.token.Mark.TheVariants as mark
 use Rattle.hll_lexer.specs.declared.token.Reserved.{Reserved}
 use Rattle.hll_lexer.specs.declared.token.Reserved.TheVariants as reserved
 use Rattle.hll_lexer.specs.declared.token.Token.{Token}
-use Rattle.hll_tree.specs.declared.tree.Cmp.{Cmp}
 use Rattle.hll_tree.specs.declared.tree.Expr.{Expr}
 use Rattle.hll_tree.specs.declared.tree.HllModel.{HllModel}
-use Rattle.hll_tree.specs.declared.tree.Link.{Link, out-Link}
 use Rattle.hll_tree.specs.declared.tree.Precedence.{Precedence}
 use Rattle.hll_tree.specs.declared.tree.Precedence.TheVariants as precedence
 use Rattle.hll_tree.specs.declared.tree.Quant.{Quant}
 use Rattle.hll_tree.specs.declared.tree.Quant.TheVariants as quant
 use Rattle.hll_tree.specs.declared.tree.Section.{Section}
 use Rattle.hll_tree.specs.declared.tree.Section.TheVariants as section
-use Rattle.hll_tree.specs.Spells.{Spelling, One, Then, Made, Either, Perhaps, Many, Marked, Worded, Behind, Before, Listed, Limit, Scope, Opening, Enclosed, name_at, expression_at, IsName, IsNumber, IsTruth, AreIndices, IsField, IsPath, IsParenthesised, IsGroup, IsMinus, IsNot, IsPre, AreOperands, IsLeast, IsGreatest, IsSize, quantified, IsBound, IsQuantifierOf, IsQuantifier, IsPrimary, IsOperand, IsSign, IsComparisonSign, IsLink, chain_of, IsChain, comparison_of, IsComparison, IsOperation, IsIf, IsChoice, IsExpression, scope, IsConstant, IsTypeItem, IsDecl, IsDefinition, Items, IsSectionOf, IsSection, SpellsUnder, word_of}
-use Rattle.hll_tree.specs.Meaning.{obligations, obligations_in}
-
--- ---- lists
-
-all_front : {X : Type 0} (P : X → Type 0) (xs ys : List X) → AllByRecursion P (xs ++ ys) → AllByRecursion P xs
-all_front P [] ys h = tt
-all_front P (x ∷ xs) ys h = (h.0, all_front P xs ys h.1)
-
-all_back : {X : Type 0} (P : X → Type 0) (xs ys : List X) → AllByRecursion P (xs ++ ys) → AllByRecursion P ys
-all_back P [] ys h = h
-all_back P (x ∷ xs) ys h = all_back P xs ys h.1
-
-all_append : {X : Type 0} (P : X → Type 0) (xs ys : List X) → AllByRecursion P xs → AllByRecursion P ys → AllByRecursion P (xs ++ ys)
-all_append P [] ys h k = k
-all_append P (x ∷ xs) ys h k = (h.0, all_append P xs ys h.1 k)
+use Rattle.hll_tree.specs.Spells.{Spelling, One, Then, Made, Either, Perhaps, Many, Marked, Before, Limit, Scope, IsName, IsNumber, IsTruth, IsPath, IsParenthesised, IsGroup, IsMinus, IsNot, IsPre, IsLeast, IsGreatest, IsSize, IsQuantifierOf, IsQuantifier, IsPrimary, IsOperand, IsSign, IsComparisonSign, IsLink, chain_of, IsChain, comparison_of, IsComparison, IsOperation, IsChoice, IsExpression, scope, IsConstant, IsTypeItem, IsDecl, IsDefinition, Items, IsSectionOf, IsSection, SpellsUnder}
+use Rattle.hll_meaning.specs.Runs.{obligations, obligations_in}
+use Rattle.hll_cli.proofs.Columns.{all_front, all_back, all_append}
 
 -- ---- tokens and what they spell
 

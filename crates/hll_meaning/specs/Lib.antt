@@ -1,0 +1,13 @@
+pub mod Kinds
+pub mod Types
+pub mod Names
+pub mod Agreement
+pub mod Values
+pub mod Declarations
+pub mod Runs
+pub mod Fitting
+pub mod Judging
+pub mod StaticRules
+pub mod Safety
+pub mod Soundness
+pub mod WellTexts
