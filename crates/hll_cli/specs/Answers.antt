@@ -62,6 +62,10 @@ HasAnswer Is Refused = (output : List ℕ) × Is Refused output
 HasAnswer Is Usage = (output : List ℕ) × Is Usage output
 HasAnswer Is ReadFault = (output : List ℕ) × Is ReadFault output
 
+-- the number is the exit status of an answer to what is asked; 6 and 7 come with any
+abbrev pub IsAnswered : Option Request → DeskView → ℕ → Type 0
+IsAnswered request view n = (status : Status) × (n ≡ code_of status) × HasAnswer (IsAnswer request view) status
+
 -- something of this kind is written, whole
 abbrev pub Writes : (List ℕ → Type 0) → List ℕ → List ℕ → Type 0
 Writes Is before now = (output : List ℕ) × Is output × (now ≡ before ++ output)

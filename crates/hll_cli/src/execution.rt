@@ -4,7 +4,7 @@ ghost use Rattle.std.specs.Prelude.{◌≡◌, ℕ, List, ◌⊎◌, map, string
 ghost use Rattle.command_line.specs.Words.{Request, Prove, Format, request_of, model_of};
 ghost use Rattle.ports.specs.Causes.{Rose, SameCounts};
 ghost use Rattle.ports.specs.Contents.{Tells, SameFiles};
-ghost use Rattle.hll_cli.specs.Answers.{IsAnswer, HasAnswer, Writes, WritesFront, Ends, IsStatus, IsReported, IsDone};
+ghost use Rattle.hll_cli.specs.Answers.{IsAnswer, HasAnswer, IsAnswered, Writes, WritesFront, Ends, IsStatus, IsReported, IsDone};
 ghost use Rattle.hll_cli.specs.Format.{IsFormatted, HasModel};
 ghost use Rattle.hll_cli.specs.Lines.{usage_line, refusal_line};
 ghost use Rattle.hll_cli.specs.Prove.{IsDecided, IsTextRefusal, HasAcceptedModel};
@@ -75,6 +75,8 @@ pub fn run<R: Threads + Sync, D: Desk, O: Sink, G: Gate + Sync>(
 ) -> u8
     // Each command has its statuses, and so have words that ask for nothing.
     ensures known { IsStatus (request_of (map string_bytes words.now)) result }
+    // The status is that of an answer for the text that was read, also where the sink doesn't tell what was written.
+    ensures answered { IsAnswered (request_of (map string_bytes words.now)) (view_of (D.told desk.old) (D.read_faults desk.old) (D.read_faults desk.new) (D.given desk.old) (D.given desk.new)) result }
 
     // Words that ask for nothing.
     ensures words { result ≡ 4 → request_of (map string_bytes words.now) ≡ None }

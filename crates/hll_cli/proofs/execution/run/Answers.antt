@@ -5,6 +5,9 @@ use Rattle.hll_cli.proofs.execution.run.Goals as goal
 pub returns-clause-known : goal.returns-clause-known
 returns-clause-known g c = known _ _ _ _ c.code.ensures c.execute.ensures.answered
 
+pub returns-clause-answered : goal.returns-clause-answered
+returns-clause-answered g c = (_, c.code.ensures, c.execute.ensures.answered)
+
 pub returns-clause-words : goal.returns-clause-words
 returns-clause-words g c = λ four. words _ _ _ _ c.code.ensures c.execute.ensures.answered four
 
