@@ -79,3 +79,59 @@ fn texts_have_one_layout_which_is_its_own(rt: HostRuntime) -> Result<(), Fail> {
     }
     Ok(())
 }
+
+/// The operators between two operands.
+const OPERATORS: [&str; 16] = [
+    "<->", "#!", "->", "#", "&", "=", "<>", "<", "<=", ">", ">=", "+", "-", "*", "/", "%",
+];
+
+/// For each of them whether the parentheses around one of its operands stay, by the operator in these.
+const STAY: [&[u8; 16]; 16] = [
+    b"((..............",
+    b"((..............",
+    b"(((.............",
+    b"((((............",
+    b"(((((...........",
+    b"(((((((((((.....",
+    b"(((((((((((.....",
+    b"(((((((((((.....",
+    b"(((((((((((.....",
+    b"(((((((((((.....",
+    b"(((((((((((.....",
+    b"(((((((((((((...",
+    b"(((((((((((((...",
+    b"((((((((((((((((",
+    b"((((((((((((((((",
+    b"((((((((((((((((",
+];
+
+#[test]
+fn parentheses_stay_only_where_they_are_needed(rt: HostRuntime) -> Result<(), Fail> {
+    let mut text = String::from_str(rt.alloc(), "Proof Obligations:\n")?;
+    let mut printed = String::from_str(rt.alloc(), "Proof Obligations:\n")?;
+    for (outer, row) in OPERATORS.iter().zip(STAY.iter()) {
+        for (inner, stays) in OPERATORS.iter().zip(row.iter()) {
+            write!(
+                text,
+                "  (a {inner} b) {outer} c;\n  a {outer} (b {inner} c);\n"
+            )?;
+            if *stays == b'(' {
+                write!(
+                    printed,
+                    "  (a {inner} b) {outer} c;\n  a {outer} (b {inner} c);\n"
+                )?;
+            } else {
+                write!(
+                    printed,
+                    "  a {inner} b {outer} c;\n  a {outer} b {inner} c;\n"
+                )?;
+            }
+        }
+    }
+    for text in [&text, &printed] {
+        let (status, out) = answer(&rt, rt.alloc(), "format m", text.as_bytes())?;
+        assert_eq!(rt; out.bytes(), printed.as_bytes());
+        assert_eq!(rt; status, 0);
+    }
+    Ok(())
+}

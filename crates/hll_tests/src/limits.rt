@@ -1,4 +1,4 @@
-use crate::memory::prove;
+use crate::memory::{answer, prove};
 use std::alloc::{AllocError, Global};
 use std::test::Fail;
 
@@ -41,7 +41,7 @@ impl Nested {
     }
 }
 
-const NESTED: [Nested; 11] = [
+const NESTED: [Nested; 20] = [
     // Levels of `~`, of `(`, and of both: 200 and 201.
     Nested {
         head: HEAD,
@@ -156,6 +156,99 @@ const NESTED: [Nested; 11] = [
         status: 3,
         output: b"refused Long\n",
     },
+    // Of two mistakes the first is named.
+    Nested {
+        head: b"Proof Obligations: ",
+        opening: b"(",
+        times: 201,
+        middle: b"",
+        closing: b"",
+        tail: b"",
+        status: 3,
+        output: b"refused Deep at 1:220\n",
+    },
+    Nested {
+        head: b"Proof Obligations: a a; ",
+        opening: b"~",
+        times: 201,
+        middle: b"",
+        closing: b"",
+        tail: b"",
+        status: 3,
+        output: b"refused Unexpected at 1:22\n",
+    },
+    // 2^24 bytes of other kinds: a comment, and one more; one that isn't closed; a name; a number, and one that is too great; the
+    // last byte begins no token.
+    Nested {
+        head: b"//",
+        opening: b"/",
+        times: 16_777_214,
+        middle: b"",
+        closing: b"",
+        tail: b"",
+        status: 0,
+        output: b"proved 0 falsified 0 undecided 0\n",
+    },
+    Nested {
+        head: b"//",
+        opening: b"/",
+        times: 16_777_215,
+        middle: b"",
+        closing: b"",
+        tail: b"",
+        status: 3,
+        output: b"refused Long\n",
+    },
+    Nested {
+        head: b"/*",
+        opening: b"*",
+        times: 16_777_214,
+        middle: b"",
+        closing: b"",
+        tail: b"",
+        status: 3,
+        output: b"refused Unclosed at 1:1\n",
+    },
+    Nested {
+        head: b"Inputs: bool ",
+        opening: b"a",
+        times: 16_777_202,
+        middle: b"",
+        closing: b"",
+        tail: b";",
+        status: 0,
+        output: b"proved 0 falsified 0 undecided 0\n",
+    },
+    Nested {
+        head: b"Proof Obligations: ",
+        opening: b"0",
+        times: 16_777_195,
+        middle: b"",
+        closing: b"",
+        tail: b"1;",
+        status: 3,
+        output: UNBUILT,
+    },
+    Nested {
+        head: b"Proof Obligations: ",
+        opening: b"9",
+        times: 16_777_196,
+        middle: b"",
+        closing: b"",
+        tail: b";",
+        status: 3,
+        output: b"refused Number at 1:20\n",
+    },
+    Nested {
+        head: b"",
+        opening: b"\n",
+        times: 16_777_215,
+        middle: b"",
+        closing: b"",
+        tail: b"?",
+        status: 3,
+        output: b"refused Stray at 16777216:1\n",
+    },
 ];
 
 #[test]
@@ -166,6 +259,21 @@ fn levels_tokens_and_bytes_are_limited(rt: HostRuntime) -> Result<(), Fail> {
         let (answered, out) = prove(&rt, alloc, &text)?;
         assert_eq!(rt; out.bytes(), case.output);
         assert_eq!(rt; answered, case.status);
+    }
+    Ok(())
+}
+
+#[test]
+fn a_chain_of_200_000_operands_is_printed(rt: HostRuntime) -> Result<(), Fail> {
+    for link in [b" & a", b" # a", b" + a"] {
+        let mut text = Vec::from_slice(rt.alloc(), b"Proof Obligations:\n  a")?;
+        for _ in 1..200_000 {
+            text.extend_from_slice(link)?;
+        }
+        text.extend_from_slice(b";\n")?;
+        let (status, out) = answer(&rt, rt.alloc(), "format m", &text)?;
+        assert_eq!(rt; out.bytes(), text.as_slice());
+        assert_eq!(rt; status, 0);
     }
     Ok(())
 }
