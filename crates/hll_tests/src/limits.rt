@@ -41,7 +41,7 @@ impl Nested {
     }
 }
 
-const NESTED: [Nested; 20] = [
+const NESTED: [Nested; 11] = [
     // Levels of `~`, of `(`, and of both: 200 and 201.
     Nested {
         head: HEAD,
@@ -135,27 +135,6 @@ const NESTED: [Nested; 20] = [
         status: 3,
         output: UNBUILT,
     },
-    // 2^24 bytes of blanks, and one more.
-    Nested {
-        head: b"",
-        opening: b" ",
-        times: 16_777_216,
-        middle: b"",
-        closing: b"",
-        tail: b"",
-        status: 0,
-        output: b"proved 0 falsified 0 undecided 0\n",
-    },
-    Nested {
-        head: b"",
-        opening: b" ",
-        times: 16_777_217,
-        middle: b"",
-        closing: b"",
-        tail: b"",
-        status: 3,
-        output: b"refused Long\n",
-    },
     // Of two mistakes the first is named.
     Nested {
         head: b"Proof Obligations: ",
@@ -177,8 +156,33 @@ const NESTED: [Nested; 20] = [
         status: 3,
         output: b"refused Unexpected at 1:22\n",
     },
-    // 2^24 bytes of other kinds: a comment, and one more; one that isn't closed; a name; a number, and one that is too great; the
-    // last byte begins no token.
+];
+
+/// Texts of 2^24 bytes, and of one more.
+const LONG: [Nested; 9] = [
+    // 2^24 bytes of blanks, and one more.
+    Nested {
+        head: b"",
+        opening: b" ",
+        times: 16_777_216,
+        middle: b"",
+        closing: b"",
+        tail: b"",
+        status: 0,
+        output: b"proved 0 falsified 0 undecided 0\n",
+    },
+    Nested {
+        head: b"",
+        opening: b" ",
+        times: 16_777_217,
+        middle: b"",
+        closing: b"",
+        tail: b"",
+        status: 3,
+        output: b"refused Long\n",
+    },
+    // A comment, one that is too long, and one that isn't closed; a name; a number, and one that is too great; a last byte with
+    // which no token begins.
     Nested {
         head: b"//",
         opening: b"/",
@@ -252,11 +256,21 @@ const NESTED: [Nested; 20] = [
 ];
 
 #[test]
-fn levels_tokens_and_bytes_are_limited(rt: HostRuntime) -> Result<(), Fail> {
-    let alloc = rt.alloc();
+fn levels_and_tokens_are_limited(rt: HostRuntime) -> Result<(), Fail> {
     for case in &NESTED {
-        let text = case.text(alloc)?;
-        let (answered, out) = prove(&rt, alloc, &text)?;
+        let text = case.text(rt.alloc())?;
+        let (answered, out) = prove(&rt, rt.alloc(), &text)?;
+        assert_eq!(rt; out.bytes(), case.output);
+        assert_eq!(rt; answered, case.status);
+    }
+    Ok(())
+}
+
+#[test]
+fn bytes_are_limited(rt: HostRuntime) -> Result<(), Fail> {
+    for case in &LONG {
+        let text = case.text(rt.alloc())?;
+        let (answered, out) = prove(&rt, rt.alloc(), &text)?;
         assert_eq!(rt; out.bytes(), case.output);
         assert_eq!(rt; answered, case.status);
     }
@@ -265,16 +279,14 @@ fn levels_tokens_and_bytes_are_limited(rt: HostRuntime) -> Result<(), Fail> {
 
 #[test]
 fn a_chain_of_200_000_operands_is_printed(rt: HostRuntime) -> Result<(), Fail> {
-    for link in [b" & a", b" # a", b" + a"] {
-        let mut text = Vec::from_slice(rt.alloc(), b"Proof Obligations:\n  a")?;
-        for _ in 1..200_000 {
-            text.extend_from_slice(link)?;
-        }
-        text.extend_from_slice(b";\n")?;
-        let (status, out) = answer(&rt, rt.alloc(), "format m", &text)?;
-        assert_eq!(rt; out.bytes(), text.as_slice());
-        assert_eq!(rt; status, 0);
+    let mut text = Vec::from_slice(rt.alloc(), b"Proof Obligations:\n  a")?;
+    for _ in 1..200_000 {
+        text.extend_from_slice(b" & a")?;
     }
+    text.extend_from_slice(b";\n")?;
+    let (status, out) = answer(&rt, rt.alloc(), "format m", &text)?;
+    assert_eq!(rt; out.bytes(), text.as_slice());
+    assert_eq!(rt; status, 0);
     Ok(())
 }
 
