@@ -62,7 +62,7 @@ HasAnswer Is Refused = (output : List ℕ) × Is Refused output
 HasAnswer Is Usage = (output : List ℕ) × Is Usage output
 HasAnswer Is ReadFault = (output : List ℕ) × Is ReadFault output
 
--- the number is the exit status of an answer to what is asked; 6 and 7 come with any
+-- this number is the exit status of an answer to what is asked, or of none for a write fault or want of memory
 abbrev pub IsAnswered : Option Request → DeskView → ℕ → Type 0
 IsAnswered request view n = (status : Status) × (n ≡ code_of status) × HasAnswer (IsAnswer request view) status
 
