@@ -267,7 +267,6 @@ module _ (f : Cnf) (s : Searched) (steps : List Step) (h : IsSolving f s steps) 
       busy = busy;
       grows = h.grows;
       whole = whole;
-      few = omega (arith, whole, busy_short f steps busy);
     }
       where
         busy : IsBusy f steps

@@ -1,5 +1,5 @@
 -- What the answers of a search mean.
-use Rattle.std.specs.Prelude.{◌≡◌, ◌+◌, ◌≤◌, ◌^◌, ℕ, Bool, List, length}
+use Rattle.std.specs.Prelude.{◌≡◌, ◌+◌, ◌≤◌, ℕ, Bool, List, length}
 use Rattle.rup_checker.specs.Formulas.{Cnf, Satisfies, listed}
 use Rattle.rup_checker.specs.Logs.{Accepts, IsBusy, Grows}
 use Rattle.rup_checker.specs.declared.log.Step.{Step}
@@ -16,13 +16,11 @@ pub record IsRefutation (f : Cnf) (budget : ℕ) (steps : List Step) : Type 0 wh
   pub accepted : Accepts f steps
   pub short : length steps ≤ budget + 1
 
--- a busy log of as many steps as the budget allows, each of which makes unit propagation stronger, and no more than
--- there are consistent sets of literals
+-- a busy log of as many steps as the budget allows, each of which makes unit propagation stronger
 pub record IsSpent (f : Cnf) (budget : ℕ) (steps : List Step) : Type 0 where
   pub busy : IsBusy f steps
   pub grows : Grows f steps
   pub whole : length steps ≡ budget
-  pub few : budget ≤ 3 ^ f.variables
 
 -- what each answer promises
 abbrev pub Answers : Cnf → ℕ → Answer → Type 0
@@ -32,5 +30,6 @@ Answers f budget (answer.Spent log) = IsSpent f budget log.steps
 
 -- the budget is not spent
 abbrev pub IsDecided : Answer → Type 0
+IsDecided (answer.Sat values) = Unit {0}
+IsDecided (answer.Unsat log) = Unit {0}
 IsDecided (answer.Spent log) = ⊥
-IsDecided _ = Unit {0}

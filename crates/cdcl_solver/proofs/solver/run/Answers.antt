@@ -4,6 +4,7 @@ use Rattle.std.specs.Option.{IfNone}
 use Rattle.std.proofs.lemmas.List.{length_push}
 use Rattle.rup_checker.specs.Logs.{IsComplete}
 use Rattle.cdcl_solver.specs.Searches.{Searched, taken, IsSettled, IsAsserting, IsLearnt}
+use Rattle.cdcl_solver.proofs.Bound.{busy_short}
 use Rattle.cdcl_solver.proofs.Short.{trail_short}
 use Rattle.cdcl_solver.proofs.Solving.{solving_goes_on, solving_decides, solving_learns, is_refuted, is_spent, is_started, back_decided, back_settled, back_asserting, is_model}
 use Rattle.cdcl_solver.proofs.solver.run.Goals as goal
@@ -32,7 +33,7 @@ returns-then-len-budget-clause-answer c =
 
 pub returns-then-len-budget-clause-decided : goal.returns-then-len-budget-clause-decided
 returns-then-len-budget-clause-decided c =
-    λ low. let r = returns-then-len-budget-clause-answer c in omega (arith, low, r.few)
+    λ low. let r = returns-then-len-budget-clause-answer c in omega (arith, low, r.whole, busy_short c.args.formula.now c.loop-steps.steps r.busy)
 
 pub backtrack-requires-clause-decided : goal.backtrack-requires-clause-decided
 backtrack-requires-clause-decided c =
