@@ -18,7 +18,7 @@ mod trail;
 mod watches;
 
 pub use answer::Answer;
-pub use law::busy_logs_are_short;
+pub use law::{busy_logs_are_short, settled_searches_are_complete};
 pub use rup_checker::Store;
 pub use search::Search;
 pub use solver::{MAX_BUDGET, solve};
