@@ -21,7 +21,7 @@ abbrev pub product : List Bool → List Bool → List Bool
 product xs [] = replicate (length xs) false
 product xs (y ∷ ys) = sum (row y xs) (doubled (product xs ys)) false
 
--- xs times ys in two's complement: as without a sign, but that the row of the sign digit is subtracted
+-- xs times ys in two's complement: as without a sign, but that the row of the sign digit is subtracted (Booth's correction)
 abbrev pub signed_product : List Bool → List Bool → List Bool
 signed_product xs [] = replicate (length xs) false
 signed_product xs (y ∷ []) = negation (row y xs)

@@ -8,7 +8,7 @@ pub fn product_range()
     ensures { (n m : ℕ) (u v : ℤ) → HasProductRange n m u v }
 {}
 
-/// Products row by row.
+/// Products row by row. In two's complement the row of the sign digit is subtracted, which is Booth's correction.
 pub fn multiplication()
     ensures naturals { (xs ys : List Bool) → MultipliesNaturals xs ys }
     ensures signed_ones { (xs ys : List Bool) → Multiplies xs ys }
