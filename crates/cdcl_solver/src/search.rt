@@ -487,12 +487,12 @@ impl Search {
             started,
         } = self;
         let number = attach(&mut clauses, &mut watches, clause)?;
-        let literal = clause[0];
+        let asserted = clause[0];
         trail.push(Assigned {
-            literal,
+            literal: asserted,
             reason: Reason::Clause(number),
         })?;
-        falsified.insert(negation(literal));
+        falsified.insert(negation(asserted));
         Ok(Search {
             clauses,
             watches,
