@@ -179,35 +179,87 @@ fn agrees_with_a_truth_table(rt: HostRuntime) -> Result<(), Fail> {
     Ok(())
 }
 
-/// The conflicts of a search before any decision, and after the first one.
-fn conflicts(
+/// Formulas with the sign of a decision on variable 1, the conflicts before it and after it, and the literals that are
+/// true in the end.
+const PROPAGATIONS: &[(u32, &str, bool, Option<u32>, Option<u32>, &[i32])] = &[
+    (3, "1 2 0  -2 3 0", false, None, None, &[1]),
+    (3, "1 2 0  -2 3 0", true, None, None, &[-1, 2, 3]),
+    (2, PAIRS, false, None, Some(2), &[1, -2]),
+    (2, PAIRS, true, None, Some(0), &[-1, -2]),
+    (
+        3,
+        "-1 2 0  -1 3 0  2 3 0  -2 -3 0",
+        false,
+        None,
+        Some(3),
+        &[1, 3, 2],
+    ),
+    (1, "1 0  -1 0", false, Some(1), None, &[1]),
+    (
+        3,
+        "1 0  2 0  -1 -2 -3 0  3 0",
+        false,
+        Some(2),
+        None,
+        &[1, 2, 3],
+    ),
+    (3, "1 0  2 0  3 0  -2 0", false, Some(3), None, &[1, 2, 3]),
+];
+
+/// The conflicts of a search before variable 1 is decided, and after it, and the literals that are true in the end.
+#[derive(Debug, Drop)]
+struct Propagated {
+    before: Option<u32>,
+    after: Option<u32>,
+    literals: Vec<i32>,
+}
+
+fn literals(alloc: Global, search: &Search) -> Result<Vec<i32>, Fail> {
+    let mut literals = Vec::new(alloc);
+    for assigned in search.trail() {
+        literals.push(assigned.literal)?;
+    }
+    Ok(literals)
+}
+
+fn propagation(
     alloc: Global,
     variables: u32,
     text: &str,
-) -> Result<(Option<u32>, Option<u32>), Fail> {
+    negated: bool,
+) -> Result<Propagated, Fail> {
     let formula = formula(alloc, variables, text)?;
     if formula.len() >= 1 << 31 {
         return Err(Fail::new("too many clauses"));
     }
     let mut search = Search::new(alloc, &formula)?;
     if let Some(conflict) = search.propagate()? {
-        return Ok((Some(conflict), None));
+        return Ok(Propagated {
+            before: Some(conflict),
+            after: None,
+            literals: literals(alloc, &search)?,
+        });
     }
-    let Some(literal) = search.unassigned() else {
-        return Ok((None, None));
+    let Some(literal) = search.open_literal(1, negated) else {
+        return Err(Fail::new("variable 1 has a value"));
     };
     search.assume(literal)?;
-    Ok((None, search.propagate()?))
+    let after = search.propagate()?;
+    Ok(Propagated {
+        before: None,
+        after,
+        literals: literals(alloc, &search)?,
+    })
 }
 
 #[test]
-fn propagates_to_a_false_clause(rt: HostRuntime) -> Result<(), Fail> {
+fn propagates_what_follows(rt: HostRuntime) -> Result<(), Fail> {
     let alloc = rt.alloc();
-    let (before, after) = conflicts(alloc, 2, PAIRS)?;
-    assert!(rt; before.is_none() && matches!(&after, Some(0 | 1)));
-    let (before, _) = conflicts(alloc, 1, "1 0  -1 0")?;
-    assert!(rt; matches!(&before, Some(0 | 1)));
-    let (before, after) = conflicts(alloc, 3, "1 2 0  -2 3 0")?;
-    assert!(rt; before.is_none() && after.is_none());
+    for &(variables, text, negated, before, after, expected) in PROPAGATIONS {
+        let found = propagation(alloc, variables, text, negated)?;
+        assert_eq!(rt; found.before, before, "{text}");
+        assert_eq!(rt; found.after, after, "{text}");
+        assert!(rt; found.literals.as_slice() == expected, "{text}");
+    }
     Ok(())
 }
