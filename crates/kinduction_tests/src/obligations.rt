@@ -6,6 +6,7 @@ ghost use Rattle.kinduction.specs.Sizes.{RoundsFit};
 use kinduction::{Found, Spot, decide, decide_all, is_small};
 use lll_core::Lll;
 use lll_text::read_lll;
+use std::alloc::{AllocError, Global};
 use std::test::Fail;
 
 /// What was found, in short: logs and models are left out.
@@ -46,6 +47,10 @@ const KEPT: &[u8] =
 /// followed by 4. It is never 7, and it is 3 at the fourth instant; true and false as obligations besides.
 const COUNTER: &[u8] =
     b"lll 1\n0 one\n1 latch 1 3 b0\n2 latch 1 11 b1\n3 latch 1 13 b2\n4 imp 2 5\n5 eqv 2 4\n6 imp 6 9\n7 imp 6 8\nassume 0\nkeep 0\nobligation 14\nobligation 8\nobligation 0\nobligation 1\nobligation 14\nend\n";
+
+/// The same counter up to its obligations.
+const COUNTER_HEAD: &str =
+    "lll 1\n0 one\n1 latch 1 3 b0\n2 latch 1 11 b1\n3 latch 1 13 b2\n4 imp 2 5\n5 eqv 2 4\n6 imp 6 9\n7 imp 6 8\nassume 0\nkeep 0\n";
 
 /// Equivalence is commutative; and a latch that begins true and takes this over.
 const COMMUTES: &[u8] =
@@ -139,6 +144,35 @@ fn any_number_of_workers_finds_the_same(rt: HostRuntime) -> Result<(), Fail> {
         assert_eq!(rt; answers.len(), expected.len());
         for (found, expected) in answers.as_slice().iter().zip(expected) {
             assert_eq!(rt; shortened(found), expected, "{workers}");
+        }
+    }
+    Ok(())
+}
+
+/// The counter with so many obligations, its literals in turn.
+fn counter(alloc: Global, obligations: u32) -> Result<String, AllocError> {
+    let mut text = format!(in alloc; "{COUNTER_HEAD}")?;
+    for number in 0..obligations {
+        let line = format!(in alloc; "obligation {}\n", number % 16)?;
+        text.push_str(&line)?;
+    }
+    text.push_str("end\n")?;
+    Ok(text)
+}
+
+#[test]
+fn four_workers_find_what_one_finds(rt: HostRuntime) -> Result<(), Fail> {
+    let alloc = rt.alloc();
+    for obligations in [0, 3, 64] {
+        let text = counter(alloc, obligations)?;
+        let l = read_lll(alloc, text.as_bytes())?;
+        assert!(rt; is_fit(&l, 8));
+        let alone = decide_all(&rt, alloc, &l, 8, 1000, 1)?;
+        let together = decide_all(&rt, alloc, &l, 8, 1000, 4)?;
+        assert_eq!(rt; alone.len(), obligations as usize);
+        assert_eq!(rt; together.len(), alone.len());
+        for (one, other) in alone.as_slice().iter().zip(together.as_slice()) {
+            assert_eq!(rt; shortened(one), shortened(other));
         }
     }
     Ok(())
