@@ -65,16 +65,16 @@ matched : (m : ArgMatches) (name : Text) (rows : List Row) → subcommand_name_o
     subcommand_rows_of m ≡ Some (name, rows)
 matched m name rows first second = both (subcommand_rows_of m) name rows (sym (firsts _ _ (out-ArgMatches m).subcommand) ∙ first) second
 
--- a command with its model
-pub found_model : (m : ArgMatches) (f : Found) (name model : Text) → subcommand_name_of m ≡ Some name → option_map (λ p. p.1) (subcommand_rows_of m) ≡ Some (rows_of f) →
-    first_value f (codes "MODEL") ≡ Some model → request_in (subcommand_rows_of m) ≡ request_on name model
-found_model m f name model first second value =
-    ap request_in (matched m name (rows_of f) first second) ∙ ap (option_and_then (request_on name)) (sym (first_value-rows f (codes "MODEL")) ∙ value)
+-- a command with its file
+pub found_file : (m : ArgMatches) (f : Found) (name file : Text) → subcommand_name_of m ≡ Some name → option_map (λ p. p.1) (subcommand_rows_of m) ≡ Some (rows_of f) →
+    first_value f (codes "FILE") ≡ Some file → request_in (subcommand_rows_of m) ≡ request_on name file
+found_file m f name file first second value =
+    ap request_in (matched m name (rows_of f) first second) ∙ ap (option_and_then (request_on name)) (sym (first_value-rows f (codes "FILE")) ∙ value)
 
-pub without_model : (m : ArgMatches) (f : Found) (name : Text) → subcommand_name_of m ≡ Some name → option_map (λ p. p.1) (subcommand_rows_of m) ≡ Some (rows_of f) →
-    first_value f (codes "MODEL") ≡ None → request_in (subcommand_rows_of m) ≡ None
-without_model m f name first second value =
-    ap request_in (matched m name (rows_of f) first second) ∙ ap (option_and_then (request_on name)) (sym (first_value-rows f (codes "MODEL")) ∙ value)
+pub without_file : (m : ArgMatches) (f : Found) (name : Text) → subcommand_name_of m ≡ Some name → option_map (λ p. p.1) (subcommand_rows_of m) ≡ Some (rows_of f) →
+    first_value f (codes "FILE") ≡ None → request_in (subcommand_rows_of m) ≡ None
+without_file m f name first second value =
+    ap request_in (matched m name (rows_of f) first second) ∙ ap (option_and_then (request_on name)) (sym (first_value-rows f (codes "FILE")) ∙ value)
 
 none_in : {X : Type 0} (f : X → Text) (g : X → List Row) (o : Option X) → option_map f o ≡ None → request_in (option_map (λ x. (f x, g x)) o) ≡ None
 none_in f g None none = refl

@@ -8,42 +8,45 @@ use Rattle.clap.specs.Kinds.{Kinds}
 use Rattle.command_line.specs.declared.command.Command.{Command}
 use Rattle.command_line.specs.declared.command.Command.TheVariants as command
 
--- what is asked: the obligations of the model of this name, or its one layout
+-- what is asked of the file of this name: the obligations of its model, whether its evidence is accepted, or its model's one layout
 pub data Request : Type 0 where
-  Prove Format : (model : Text) → Request
+  Prove Check Format : (file : Text) → Request
 
--- the name of the model that is asked about
-abbrev pub model_of : Request → Text
-model_of (Prove model) = model
-model_of (Format model) = model
+-- the name of the file that is asked about
+abbrev pub file_of : Request → Text
+file_of (Prove file) = file
+file_of (Check file) = file
+file_of (Format file) = file
 
 -- what a command asks for
 abbrev pub asked_by : Command → Request
 asked_by (command.Prove model) = Prove model.now
+asked_by (command.Check evidence) = Check evidence.now
 asked_by (command.Format model) = Format model.now
 
--- a command that is given one word, the name of a model's file
-abbrev pub on_model : Text → App
-on_model name = with_rule (new_app name) (record (new_rule (codes "MODEL")) { required = true })
+-- a command that is given one word, the name of a file
+abbrev pub on_file : Text → App
+on_file name = with_rule (new_app name) (record (new_rule (codes "FILE")) { required = true })
 
 -- the program: a word for one of its commands, with what that command is given; it has no help
 abbrev pub program : App
 program =
-    with_subcommand (with_subcommand
+    with_subcommand (with_subcommand (with_subcommand
     (on_top (λ s. record s { no_binary_name = true; disable_help_flag = true; disable_help_subcommand = true; subcommand_required = true })
     (new_app (codes "hll")))
-    (on_model (codes "prove")).top) (on_model (codes "format")).top
+    (on_file (codes "prove")).top) (on_file (codes "check")).top) (on_file (codes "format")).top
 
--- what is asked by the name of a command and the name of a model
+-- what is asked by the name of a command and the name of a file
 abbrev pub request_on : Text → Text → Option Request
-request_on name model =
-    if bytes_eq name (codes "prove") then Some (Prove model)
-    else (if bytes_eq name (codes "format") then Some (Format model) else None)
+request_on name file =
+    if bytes_eq name (codes "prove") then Some (Prove file)
+    else (if bytes_eq name (codes "check") then Some (Check file)
+    else (if bytes_eq name (codes "format") then Some (Format file) else None))
 
 -- what a command with the values that were found for it asks for
 abbrev pub request_in : Option (Text × List Row) → Option Request
 request_in None = None
-request_in (Some found) = option_and_then (request_on found.0) (first_of (codes "MODEL") found.1)
+request_in (Some found) = option_and_then (request_on found.0) (first_of (codes "FILE") found.1)
 
 -- what is asked where `clap` finds no fault
 abbrev pub unless : Kinds → Option Request → Option Request

@@ -1,9 +1,10 @@
 //! The commands of the program, and the words that ask for them.
 
 ghost use Rattle.std.specs.Prelude.{◌≡◌, false, map, string_bytes, Some, None, IfOk, IfSome, IfNone};
+ghost use Rattle.clap.specs.Simple.{with_subcommand};
 ghost use Rattle.clap.specs.Words.{app_of, subcommand_rows_of};
 ghost use Rattle.clap.specs.declared.Command.TheViews.{out-Command as fields_of};
-ghost use Rattle.command_line.specs.Words.{program as the_program, on_model as a_command_on_model, request_of, request_in, asked_by};
+ghost use Rattle.command_line.specs.Words.{program as the_program, on_file as a_command_on_file, request_of, request_in, asked_by};
 
 use clap::error::ErrorKind;
 use clap::{Arg, ArgMatches};
@@ -14,32 +15,45 @@ use std::alloc::{AllocError, Global};
 pub enum Command<'a> {
     /// Decide the obligations of a model.
     Prove { model: &'a str },
+    /// Check the evidence of a file.
+    Check { evidence: &'a str },
     /// Print a model in its one layout.
     Format { model: &'a str },
 }
 
-/// The command of this name, which is given the name of a model's file.
-fn on_model<'a>(alloc: Global, name: &'a str) -> Result<clap::Command<'a>, AllocError>
-    ensures shape { IfOk result (λ c. app_of c ≡ a_command_on_model name.entry.now) }
+/// The command of this name, which is given the name of a file.
+fn on_file<'a>(alloc: Global, name: &'a str) -> Result<clap::Command<'a>, AllocError>
+    ensures shape { IfOk result (λ c. app_of c ≡ a_command_on_file name.entry.now) }
     ensures local { IfOk result (λ c. (fields_of c).has_globals ≡ false) }
 {
-    let model = Arg::new(alloc, "MODEL").required(true);
-    clap::Command::new(alloc, name).arg(model)
+    let file = Arg::new(alloc, "FILE").required(true);
+    clap::Command::new(alloc, name).arg(file)
+}
+
+/// A program with one more command of this name, which is given the name of a file.
+fn with_file_command<'a>(
+    alloc: Global,
+    program: clap::Command<'a>,
+    name: &'a str,
+) -> Result<clap::Command<'a>, AllocError>
+    ensures { IfOk result (λ c. app_of c ≡ with_subcommand (app_of program.entry) (a_command_on_file name.entry.now).top) }
+{
+    let command = on_file(alloc, name)?;
+    program.subcommand(command)
 }
 
 /// The commands of the program.
 fn program<'a>(alloc: Global) -> Result<clap::Command<'a>, AllocError>
     ensures { IfOk result (λ c. app_of c ≡ the_program) }
 {
-    let prove = on_model(alloc, "prove")?;
-    let format = on_model(alloc, "format")?;
-    clap::Command::new(alloc, "hll")
+    let program = clap::Command::new(alloc, "hll")
         .no_binary_name(true)
         .disable_help_flag(true)
         .disable_help_subcommand(true)
-        .subcommand_required(true)
-        .subcommand(prove)?
-        .subcommand(format)
+        .subcommand_required(true);
+    let program = with_file_command(alloc, program, "prove")?;
+    let program = with_file_command(alloc, program, "check")?;
+    with_file_command(alloc, program, "format")
 }
 
 impl<'a> Command<'a> {
@@ -51,12 +65,13 @@ impl<'a> Command<'a> {
         let Some((name, given)) = matches.subcommand() else {
             return None;
         };
-        let Some(model) = given.get_str("MODEL") else {
+        let Some(file) = given.get_str("FILE") else {
             return None;
         };
         match name {
-            "prove" => Some(Command::Prove { model }),
-            "format" => Some(Command::Format { model }),
+            "prove" => Some(Command::Prove { model: file }),
+            "check" => Some(Command::Check { evidence: file }),
+            "format" => Some(Command::Format { model: file }),
             _ => None,
         }
     }

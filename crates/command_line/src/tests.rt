@@ -5,9 +5,12 @@ use std::alloc::{AllocError, Global};
 use std::test::Fail;
 
 /// Words with spaces between them, and what they ask for.
-const LINES: [(&str, Option<Command<'static>>); 22] = [
+const LINES: [(&str, Option<Command<'static>>); 27] = [
     ("prove m", Some(Command::Prove { model: "m" })),
     ("format m", Some(Command::Format { model: "m" })),
+    ("check e", Some(Command::Check { evidence: "e" })),
+    ("check check", Some(Command::Check { evidence: "check" })),
+    ("check -- -e", Some(Command::Check { evidence: "-e" })),
     ("prove help", Some(Command::Prove { model: "help" })),
     ("prove prove", Some(Command::Prove { model: "prove" })),
     ("prove -", Some(Command::Prove { model: "-" })),
@@ -20,6 +23,8 @@ const LINES: [(&str, Option<Command<'static>>); 22] = [
         Some(Command::Format { model: "--help" }),
     ),
     ("prove", None),
+    ("check", None),
+    ("check e e", None),
     ("prove --", None),
     ("prove m m", None),
     ("prove -m", None),

@@ -1,7 +1,7 @@
--- What a text of the forms that are built declares: inputs that are truth values, and nothing else.
+-- What a text of the forms that are built declares, inputs that are truth values and nothing else, and what it asks.
 use Rattle.std.proofs.Common.{◌≡◌, ℕ, List, [], ◌∷◌, ◌++◌, map, Bool, true, false, refl, sym, ap, ◌∙◌, append_assoc, append-nil}
 use Rattle.std.specs.Prelude.{◌&&◌, fold}
-use Rattle.std.specs.List.{flat_map, list_all}
+use Rattle.std.specs.List.{AllByRecursion, flat_map, list_all}
 use Rattle.std.proofs.lemmas.Bool.{false≢true}
 use Rattle.std.proofs.lemmas.List.{map-append}
 use Rattle.std.proofs.lemmas.List.Sums.{fold-append}
@@ -17,9 +17,10 @@ use Rattle.hll_tree.specs.declared.tree.TypeText.TheVariants as written
 use Rattle.hll_meaning.specs.Kinds.{Kind, truth}
 use Rattle.hll_meaning.specs.Names.{Thing, variable, Names}
 use Rattle.hll_meaning.specs.Declarations.{written_kind, with_dims, declared_kind, variables_of, items_in, type_items, with_item, names}
-use Rattle.hll_meaning.specs.Runs.{definitions, definitions_in, constraints, constraints_in, variables, variables_among}
+use Rattle.hll_meaning.specs.Runs.{definitions, definitions_in, constraints, constraints_in, obligations, obligations_in, variables, variables_among}
 use Rattle.hll_cli.specs.Accepted.{is_bool, is_single, is_boolean_decl, is_built_section, is_built}
-use Rattle.hll_cli.specs.BooleanTexts.{declared_names, input_names_in, input_names}
+use Rattle.hll_cli.specs.BooleanTexts.{declared_names, input_names_in, input_names, is_boolean}
+use Rattle.hll_cli.proofs.Columns.{all_append}
 
 pub and_both : (a b : Bool) → (a && b) ≡ true → (a ≡ true) × (b ≡ true)
 and_both true true h = (refl, refl)
@@ -141,3 +142,28 @@ undefined m built = none_of_all definitions_in section_undefined m.sections buil
 
 pub unconstrained : (m : HllModel) → is_built m ≡ true → constraints m ≡ []
 unconstrained m built = none_of_all constraints_in section_unconstrained m.sections built
+
+-- ---- obligations
+
+all_true : {A : Type 0} (p : A → Bool) (xs : List A) → list_all p xs ≡ true → AllByRecursion (λ x. p x ≡ true) xs
+all_true p [] h = tt
+all_true p (x ∷ xs) h = let both = and_both (p x) (list_all p xs) h in (both.0, all_true p xs both.1)
+
+-- what is built is Boolean
+section_boolean : (x : Section) → is_built_section x ≡ true → AllByRecursion (λ e. is_boolean e ≡ true) (obligations_in x)
+section_boolean (section.Constants xs) built = absurd (false≢true built)
+section_boolean (section.Types xs) built = absurd (false≢true built)
+section_boolean (section.Inputs xs) built = tt
+section_boolean (section.Declarations xs) built = absurd (false≢true built)
+section_boolean (section.Definitions xs) built = absurd (false≢true built)
+section_boolean (section.Constraints xs) built = absurd (false≢true built)
+section_boolean (section.Obligations es) built = all_true is_boolean es built
+
+sections_boolean : (xs : List Section) → list_all is_built_section xs ≡ true → AllByRecursion (λ e. is_boolean e ≡ true) (flat_map obligations_in xs)
+sections_boolean [] built = tt
+sections_boolean (x ∷ xs) built =
+    let both = and_both (is_built_section x) (list_all is_built_section xs) built in
+    all_append (λ e. is_boolean e ≡ true) (obligations_in x) (flat_map obligations_in xs) (section_boolean x both.0) (sections_boolean xs both.1)
+
+pub built_boolean : (m : HllModel) → is_built m ≡ true → AllByRecursion (λ e. is_boolean e ≡ true) (obligations m)
+built_boolean m built = sections_boolean m.sections built

@@ -91,28 +91,26 @@ pub record ChainSoFar (ns : List (List ℕ)) (e : Expr) (settled value : List Bo
   pub settled_whole : length settled ≡ 2 ^ length ns
   pub value_whole : length value ≡ 2 ^ length ns
   pub each : (k : ℕ) → k < 2 ^ length ns → (get_or settled k false || chain_value (get_or value k false) (map (link_value (look ns k)) rest)) ≡ value_in (look ns k) e
-  pub declared : AllByRecursion (Contains ns) (flat_map (λ link. names_in link.with) rest) → UsesOnly ns e
 
 pub chain_start : (ns : List (List ℕ)) (e first : Expr) (links : List Link) (settled value : List Bool) (rows : ℕ) → rows ≡ 2 ^ length ns → e.form ≡ Chain first links →
-    IsColumn ns first value → UsesOnly ns first → length settled ≡ rows → ((k : ℕ) → k < rows → get_or settled k false ≡ false) → ChainSoFar ns e settled value links
-chain_start ns e first links settled value rows whole is column uses long none = record {
+    IsColumn ns first value → length settled ≡ rows → ((k : ℕ) → k < rows → get_or settled k false ≡ false) → ChainSoFar ns e settled value links
+chain_start ns e first links settled value rows whole is column long none = record {
   settled_whole = long ∙ whole;
   value_whole = column.whole;
   each = λ k h.
       ap (λ b. b || chain_value (get_or value k false) (map (link_value (look ns k)) links)) (none k (omega arith))
       ∙ ap (λ b. chain_value b (map (link_value (look ns k)) links)) (column.each k h)
       ∙ sym (value_in-chain (look ns k) e first links is);
-  declared = λ all. rw (names_in-chain e first links is) (all_append (Contains ns) (names_in first) _ uses all);
 }
 
 pub chain_step : (ns : List (List ℕ)) (e : Expr) (link : Link) (rest : List Link) (settled value next settled' value' : List Bool) →
-    ChainSoFar ns e settled value (link ∷ rest) → IsColumn ns link.with next → UsesOnly ns link.with →
+    ChainSoFar ns e settled value (link ∷ rest) → IsColumn ns link.with next →
     length settled' ≡ length settled → length value' ≡ length value →
     ((k : ℕ) (links : List (Op × Bool)) → k < length settled →
     (get_or settled' k false || chain_value (get_or value' k false) links)
     ≡ (get_or settled k false || chain_value (get_or value k false) ((link.op, get_or next k false) ∷ links))) →
     ChainSoFar ns e settled' value' rest
-chain_step ns e link rest settled value next settled' value' so_far column uses long long' step =
+chain_step ns e link rest settled value next settled' value' so_far column long long' step =
     let whole = so_far.settled_whole in
     record {
       settled_whole = long ∙ so_far.settled_whole;
@@ -121,7 +119,6 @@ chain_step ns e link rest settled value next settled' value' so_far column uses 
           step k (map (link_value (look ns k)) rest) (omega arith)
           ∙ ap (λ b. get_or settled k false || chain_value (get_or value k false) ((link.op, b) ∷ map (link_value (look ns k)) rest)) (column.each k h)
           ∙ so_far.each k h;
-      declared = λ all. so_far.declared (all_append (Contains ns) (names_in link.with) _ uses all);
     }
 
 pub chain_end : (ns : List (List ℕ)) (e : Expr) (settled value column : List Bool) → ChainSoFar ns e settled value [] → length column ≡ length value →

@@ -52,10 +52,6 @@ all_zip_push R (z ∷ zs) (w ∷ ws) x y all here = (all.0, all_zip_push R zs ws
 all_zip_push R [] (w ∷ ws) x y all here = absurd all
 all_zip_push R (z ∷ zs) [] x y all here = absurd all
 
-pub all_push : {X : Type 0} (P : X → Type 0) (xs : List X) (x : X) → AllByRecursion P xs → P x → AllByRecursion P (xs ++ x ∷ [])
-all_push P [] x all here = (here, tt)
-all_push P (y ∷ ys) x all here = (all.0, all_push P ys x all.1 here)
-
 -- the front of what is made of a list's items goes on with what is made of the next
 pub take_map_item : {X Y : Type 0} (f : X → Y) (xs : List X) (i : ℕ) (x : X) → i < length xs → x ≡ get_or xs i x → take (i + 1) (map f xs) ≡ take i (map f xs) ++ f x ∷ []
 take_map_item f xs i x within is =

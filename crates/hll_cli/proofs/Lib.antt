@@ -1,6 +1,7 @@
 pub mod Columns
 pub mod Decides
 pub mod Decisions
+pub mod DeclaredNames
 pub mod Distinct
 pub mod Printed
 pub mod Rows
@@ -15,3 +16,5 @@ pub mod BuiltTexts
 pub mod TruthValues
 pub mod SpelledValues
 pub mod TableVerdicts
+pub mod Weights
+pub mod Checked

@@ -1,11 +1,13 @@
 -- Where the mistakes of a text stand, and that a text has one reading.
-use Rattle.std.proofs.Common.{arith, ◌≡◌, ℕ, ◌≤◌, List, [], ◌∷◌, ◌++◌, length, ap, sym, subst}
+use Rattle.std.proofs.Common.{arith, ◌≡◌, ℕ, ◌≤◌, List, [], ◌∷◌, ◌++◌, length, min, refl, ap, sym, subst}
 use Rattle.hll_lexer.proofs.FaultLemmas.{fault_within}
 use Rattle.hll_lexer.specs.declared.fault.LexFault.TheVariants as lexing
 use Rattle.hll_lexer.specs.declared.token.Token.{Token}
 use Rattle.hll_lexer.specs.Tokens.{Splits, HasFault, AreInOrder}
 use Rattle.hll_tree.specs.Prefixes.{IsUnexpected, IsDeep, begin_of}
 use Rattle.std.specs.List.{AllByRecursion}
+use Rattle.std.proofs.lemmas.List.{take_min}
+use Rattle.hll_lexer.specs.Place.{place_of}
 use Rattle.hll_lexer.proofs.OrderLemmas.{tokens_in_order}
 use Rattle.hll_tree.specs.declared.tree.HllModel.{HllModel}
 use Rattle.hll_meaning.specs.Runs.{obligations}
@@ -66,6 +68,10 @@ only_reading text ts m split one only wider other is =
     (only other (wider other (subst (λ (us : List Token). SpellsWithin 200 text us other) same is.spelled)), ap length same)
 
 -- ---- the places of a refusal
+
+-- a byte offset beyond the text has the place of its end
+pub place_at_most : (text : List ℕ) (at : ℕ) → place_of text (min at (length text)) ≡ place_of text at
+place_at_most text at = rw (take_min at text) refl
 
 pub unexpected_at : (text : List ℕ) (fault : SyntaxFault) (at : ℕ) → fault ≡ parsing.Unexpected at → IsSyntaxFault text fault → at ≤ length text
 unexpected_at text fault at is h =

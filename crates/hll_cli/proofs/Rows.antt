@@ -17,12 +17,6 @@ value_at-first (n ∷ ns) (x ∷ xs) name (suc i) within others here long =
     let first : bytes_eq n name ≡ false = others 0 (omega arith) in
     rw first (value_at-first ns xs name i (omega arith) (λ k h. others (suc k) (omega arith)) here (omega arith))
 
--- a name that a position has is an element
-pub contained_at : (ns : List (List ℕ)) (name : List ℕ) (i : ℕ) → i < length ns → bytes_eq (get_or ns i []) name ≡ true → Contains ns name
-contained_at ns name i within here =
-    let e = (bytes_eq-Decides (get_or ns i []) name).0 here in
-    (i, within, get_or_default ns i name [] within ∙ e)
-
 -- a name that no position has is no element
 pub not_contained : (ns : List (List ℕ)) (name : List ℕ) → ((k : ℕ) → k < length ns → bytes_eq (get_or ns k []) name ≡ false) → Contains ns name → ⊥
 not_contained ns name others there =

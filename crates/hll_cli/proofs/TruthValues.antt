@@ -11,7 +11,7 @@ use Rattle.hll_tree.specs.declared.tree.Op.TheVariants as op
 use Rattle.hll_tree.specs.declared.tree.Precedence.{Precedence}
 use Rattle.hll_tree.specs.declared.tree.Precedence.TheVariants as precedence
 use Rattle.hll_tree.specs.Spells.{precedence_of}
-use Rattle.hll_meaning.specs.Kinds.{truth, ranges, Value, IsOf}
+use Rattle.hll_meaning.specs.Kinds.{truth, Value, IsOf}
 use Rattle.hll_meaning.specs.Names.{variable, under}
 use Rattle.hll_meaning.specs.Values.{Instant, of_truth, is_true, variable_in, from_the_left, from_the_right, chained}
 use Rattle.hll_meaning.specs.Runs.{AreOfKinds}

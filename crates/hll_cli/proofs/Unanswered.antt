@@ -2,9 +2,12 @@
 use Rattle.std.proofs.Common.{◌≡◌, List, ℕ, ◌≤◌, length, Option, Some, None, IfSome}
 use Rattle.ports.specs.Causes.{Counts, RoseBy}
 use Rattle.ports.specs.Contents.{Files, Tells, SameFiles}
+use Rattle.hll_lexer.specs.declared.places.LineColumn.{LineColumn}
+use Rattle.hll_cli.specs.declared.fault.Mistake.{Mistake}
+use Rattle.hll_cli.specs.declared.fault.Mistake.TheVariants.{Stray, Unclosed, Number, Unexpected, Deep, Static}
 use Rattle.hll_cli.specs.declared.fault.Refusal.{Refusal}
 use Rattle.hll_cli.specs.declared.fault.Refusal.TheVariants.{Unread, Long, Misplaced, Unbuilt}
-use Rattle.hll_cli.specs.Prove.{IsTextRefusal}
+use Rattle.hll_cli.specs.Prove.{IsMistakeAt, IsTextRefusal}
 use Rattle.hll_cli.specs.Reading.{DeskView, IsRead, view_of, text_limit}
 use Rattle.hll_cli.specs.Texts.{IsMisspelled, IsUnanswered}
 
@@ -36,8 +39,16 @@ unformatted view name text read (Misplaced mistake place) refused = record { tex
 unformatted view name text read Unbuilt refused = absurd refused
 
 -- a text that spells no model isn't decided
+misspelled_at : (text : List ℕ) (mistake : Mistake) (place : LineColumn) → IsMisspelled text (Misplaced mistake place) → IsMistakeAt text mistake place
+misspelled_at text Stray place refused = refused
+misspelled_at text Unclosed place refused = refused
+misspelled_at text Number place refused = refused
+misspelled_at text Unexpected place refused = refused
+misspelled_at text Deep place refused = refused
+misspelled_at text (Static why) place refused = absurd refused.1
+
 pub misspelled_undecided : (text : List ℕ) (refusal : Refusal) → IsMisspelled text refusal → IsTextRefusal text refusal
 misspelled_undecided text Unread refused = refused
 misspelled_undecided text Long refused = refused
-misspelled_undecided text (Misplaced mistake place) refused = refused
+misspelled_undecided text (Misplaced mistake place) refused = misspelled_at text mistake place refused
 misspelled_undecided text Unbuilt refused = absurd refused

@@ -1,7 +1,6 @@
 -- The texts that are accepted: declarations of Boolean inputs, and obligations over them.
 use Rattle.std.specs.Prelude.{◌≡◌, ℕ, ◌≤◌, Bool, true, false, ◌&&◌, List, [], ◌∷◌, length}
-use Rattle.std.specs.List.{AllByRecursion, IsDistinct, list_all}
-use Rattle.std.specs.Str.{bytes_eq}
+use Rattle.std.specs.List.{list_all}
 use Rattle.hll_lexer.specs.declared.token.Token.{Token}
 use Rattle.hll_lexer.specs.Tokens.{Splits}
 use Rattle.hll_tree.specs.declared.tree.HllModel.{HllModel}
@@ -13,8 +12,8 @@ use Rattle.hll_tree.specs.declared.tree.Section.{Section}
 use Rattle.hll_tree.specs.declared.tree.Section.TheVariants as section
 use Rattle.hll_tree.specs.declared.tree.TypeText.{TypeText}
 use Rattle.hll_tree.specs.declared.tree.TypeText.TheVariants as ty
-use Rattle.hll_meaning.specs.Runs.{obligations}
-use Rattle.hll_cli.specs.BooleanTexts.{input_names, is_boolean_op, is_boolean, UsesOnly}
+use Rattle.hll_meaning.specs.StaticRules.{Well}
+use Rattle.hll_cli.specs.BooleanTexts.{input_names, is_boolean_op, is_boolean}
 
 -- how many tokens a text has at most
 abbrev pub token_limit : ℕ
@@ -69,12 +68,10 @@ pub record IsSpelled (text : List ℕ) (m : HllModel) : Type 0 where
   pub split : Splits text tokens
   pub spelled : SpellsWithin level_limit text tokens m
 
--- a text that is spelled so by few tokens, of the forms that are built, with inputs of different names within their limit, and
--- obligations that use no other names
+-- a text that is spelled so by few tokens, without static faults, of the forms that are built, with inputs within their limit
 pub record IsAccepted (text : List ℕ) (m : HllModel) : Type 0 where
   pub spelled : IsSpelled text m
   pub few_tokens : length spelled.tokens ≤ token_limit
+  pub well : Well m
   pub built : is_built m ≡ true
   pub few_inputs : length (input_names m) ≤ input_limit
-  pub distinct : IsDistinct bytes_eq (input_names m)
-  pub declared : AllByRecursion (UsesOnly (input_names m)) (obligations m)

@@ -1,5 +1,6 @@
 pub mod Accepted
 pub mod Answers
+pub mod Check
 pub mod BooleanTexts
 pub mod Faults
 pub mod Format

@@ -2,10 +2,12 @@
 use Rattle.std.specs.Prelude.{ℕ, Bool, true, false, List, [], ◌∷◌, ◌++◌, codes}
 use Rattle.std.specs.Fmt.{decimal}
 use Rattle.hll_lexer.specs.declared.places.LineColumn.{LineColumn}
+use Rattle.hll_meaning.specs.declared.fault.StaticKind.{StaticKind}
+use Rattle.hll_meaning.specs.declared.fault.StaticKind.TheVariants as is
 use Rattle.hll_cli.specs.declared.fault.Refusal.{Refusal}
 use Rattle.hll_cli.specs.declared.fault.Refusal.TheVariants.{Unread, Long, Misplaced, Unbuilt}
 use Rattle.hll_cli.specs.declared.fault.Mistake.{Mistake}
-use Rattle.hll_cli.specs.declared.fault.Mistake.TheVariants.{Stray, Unclosed, Number, Unexpected, Deep}
+use Rattle.hll_cli.specs.declared.fault.Mistake.TheVariants.{Stray, Unclosed, Number, Unexpected, Deep, Static}
 
 -- the end of a line
 abbrev pub line_feed : List ℕ
@@ -31,7 +33,21 @@ totals_text proved falsified undecided =
 
 -- the line on how the program is called
 abbrev pub usage_line : List ℕ
-usage_line = codes "usage: hll prove MODEL | hll format MODEL" ++ line_feed
+usage_line = codes "usage: hll prove MODEL | hll check EVIDENCE | hll format MODEL" ++ line_feed
+
+-- the word for a static fault
+abbrev pub kind_text : StaticKind → List ℕ
+kind_text is.Unknown = codes "Unknown"
+kind_text is.Twice = codes "Twice"
+kind_text is.Kind = codes "Kind"
+kind_text is.Mismatch = codes "Mismatch"
+kind_text is.Range = codes "Range"
+kind_text is.Constant = codes "Constant"
+kind_text is.Wide = codes "Wide"
+kind_text is.Shape = codes "Shape"
+kind_text is.Cells = codes "Cells"
+kind_text is.Undefined = codes "Undefined"
+kind_text is.FirstMissing = codes "FirstMissing"
 
 -- the word for a mistake
 abbrev pub mistake_text : Mistake → List ℕ
@@ -40,6 +56,7 @@ mistake_text Unclosed = codes "Unclosed"
 mistake_text Number = codes "Number"
 mistake_text Unexpected = codes "Unexpected"
 mistake_text Deep = codes "Deep"
+mistake_text (Static why) = kind_text why
 
 -- the line on why the file of this name has no answer of its own
 abbrev pub refusal_line : List ℕ → Refusal → List ℕ

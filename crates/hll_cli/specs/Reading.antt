@@ -25,16 +25,24 @@ view_of told faults_before faults_now given_before given_now = record {
 abbrev pub text_limit : ℕ
 text_limit = 16777216
 
--- the text that was read of a file: as many bytes as were given of it, and its own where the files are told
-pub record IsRead (view : DeskView) (name text : List ℕ) : Type 0 where
-  pub file : IfSome view.told (λ files. files name ≡ Some text)
-  pub given : RoseBy (length text) (view.given_before name) (view.given_now name)
-  pub short : length text ≤ text_limit
+-- what was read of a file, whole and within a limit: as many bytes as were given of it, and its own where the files are told
+pub record IsReadWithin (limit : ℕ) (view : DeskView) (name bytes : List ℕ) : Type 0 where
+  pub file : IfSome view.told (λ files. files name ≡ Some bytes)
+  pub given : RoseBy (length bytes) (view.given_before name) (view.given_now name)
+  pub short : length bytes ≤ limit
 
--- a file that is too long: one byte more than the limit was given of it, and where the files are told it is longer
-pub record IsLong (view : DeskView) (name : List ℕ) : Type 0 where
-  pub file : IfSome view.told (λ files. IsSomeAnd (files name) (λ bytes. text_limit < length bytes))
-  pub given : RoseBy (text_limit + 1) (view.given_before name) (view.given_now name)
+-- a file is longer than a limit: one byte more than that was given of it, and where the files are told it is longer
+pub record IsLongerThan (limit : ℕ) (view : DeskView) (name : List ℕ) : Type 0 where
+  pub file : IfSome view.told (λ files. IsSomeAnd (files name) (λ bytes. limit < length bytes))
+  pub given : RoseBy (limit + 1) (view.given_before name) (view.given_now name)
+
+-- the text that was read of a file
+abbrev pub IsRead : DeskView → List ℕ → List ℕ → Type 0
+IsRead view name text = IsReadWithin text_limit view name text
+
+-- a file that is too long for a text
+abbrev pub IsLong : DeskView → List ℕ → Type 0
+IsLong view name = IsLongerThan text_limit view name
 
 -- no byte of a file was given, and no read failed
 abbrev pub ReadsNothing : DeskView → Type 0

@@ -1,7 +1,8 @@
 -- The report: what is printed of each obligation, and what that means.
 use Rattle.std.specs.Prelude.{◌≡◌, ℕ, suc, ◌-◌, Bool, true, false, List, [], ◌∷◌, ◌++◌, length, map, count_by, codes}
 use Rattle.std.specs.Fmt.{decimal}
-use Rattle.std.specs.List.{list_any}
+use Rattle.std.specs.List.{IsDistinct, list_any}
+use Rattle.std.specs.Str.{bytes_eq}
 use Rattle.hll_lexer.specs.Place.{place_of}
 use Rattle.hll_tree.specs.declared.tree.Expr.{Expr}
 use Rattle.hll_tree.specs.declared.tree.HllModel.{HllModel}
@@ -84,11 +85,12 @@ counts_text verdicts =
 abbrev pub report_text : List ℕ → HllModel → List Verdict → List ℕ
 report_text text m verdicts = obligations_text text (input_names m) 1 (obligations m) verdicts ++ counts_text verdicts
 
--- the report on a text: all its variables are inputs, there is a right verdict for each obligation, and this is printed of them
+-- the report on a text: all its variables are inputs, of different names, there is a right verdict for each obligation, and this is printed of them
 pub record IsReport (text : List ℕ) (output : List ℕ) (falsified : Bool) : Type 0 where
   pub model : HllModel
   pub accepted : IsAccepted text model
   pub all_inputs : map (λ x. x.0) (variables model) ≡ input_names model
+  pub distinct : IsDistinct bytes_eq (input_names model)
   pub verdicts : List Verdict
   pub right : AreRight model (obligations model) verdicts
   pub printed : output ≡ report_text text model verdicts

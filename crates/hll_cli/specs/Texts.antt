@@ -11,18 +11,20 @@ use Rattle.hll_cli.specs.declared.answer.Status.{Status}
 use Rattle.hll_cli.specs.declared.fault.Refusal.{Refusal}
 use Rattle.hll_cli.specs.declared.fault.Refusal.TheVariants.{Unread, Long, Misplaced, Unbuilt}
 use Rattle.hll_cli.specs.declared.fault.Mistake.{Mistake}
-use Rattle.hll_cli.specs.declared.fault.Mistake.TheVariants.{Stray, Unclosed, Number, Unexpected, Deep}
+use Rattle.hll_cli.specs.declared.fault.Mistake.TheVariants.{Stray, Unclosed, Number, Unexpected, Deep, Static}
 use Rattle.hll_cli.specs.Faults.{status_of}
 use Rattle.hll_cli.specs.Lines.{refusal_line}
 use Rattle.hll_cli.specs.Reading.{DeskView, IsRead, IsLong, text_limit}
 
--- this mistake is the first one of a text, at this byte: its first part that is no token, or the first of its tokens with which no text goes on
+-- this mistake is the first one of a text, at this byte: its first part that is no token, or the first of its tokens with which no
+-- text goes on; a static fault is one of a text that spells a model
 abbrev pub IsFirstMistake : List ℕ → Mistake → ℕ → Type 0
 IsFirstMistake text Stray at = HasFault text (lexing.Stray at)
 IsFirstMistake text Unclosed at = HasFault text (lexing.Unclosed at)
 IsFirstMistake text Number at = HasFault text (lexing.Number at)
 IsFirstMistake text Unexpected at = (ts : List Token) × Splits text ts × IsUnexpected text ts at
 IsFirstMistake text Deep at = (ts : List Token) × Splits text ts × IsDeep text ts at
+IsFirstMistake text (Static why) at = ⊥
 
 -- why a text spells no model: its first mistake, at its place
 abbrev pub IsMisspelled : List ℕ → Refusal → Type 0

@@ -3,12 +3,13 @@
 ghost use Rattle.std.specs.Prelude.{◌≡◌, ◌++◌, codes, IfOk};
 ghost use Rattle.hll_cli.specs.Answers.{code_of};
 ghost use Rattle.hll_cli.specs.Faults.{status_of};
-ghost use Rattle.hll_cli.specs.Lines.{usage_line, refusal_line, mistake_text as text_of_mistake, place_text, line_feed};
+ghost use Rattle.hll_cli.specs.Lines.{usage_line, refusal_line, kind_text as text_of_kind, mistake_text as text_of_mistake, place_text, line_feed};
 ghost use Rattle.hll_cli.specs.declared.answer.Status.TheVariants as status;
 
 use crate::fault::{Mistake, Refusal};
 use crate::line::Printed;
 use hll_lexer::LineColumn;
+use hll_meaning::StaticKind;
 use std::alloc::{AllocError, Global};
 
 /// How the program ends. The exit status is the number.
@@ -18,6 +19,8 @@ pub enum Status {
     Done = 0,
     /// A falsified obligation was printed.
     Falsified = 1,
+    /// An undecided obligation was printed, and no falsified one.
+    Undecided = 2,
     /// The text is refused.
     Refused = 3,
     /// The words are refused.
@@ -27,6 +30,8 @@ pub enum Status {
     /// The output could not be written.
     WriteFault = 6,
     Memory = 7,
+    /// The evidence is refused.
+    Unaccepted = 8,
 }
 
 impl Status {
@@ -62,7 +67,10 @@ impl Answer {
     {
         Ok(Answer {
             status: Status::Usage,
-            output: Vec::from_slice(alloc, b"usage: hll prove MODEL | hll format MODEL\n")?,
+            output: Vec::from_slice(
+                alloc,
+                b"usage: hll prove MODEL | hll check EVIDENCE | hll format MODEL\n",
+            )?,
         })
     }
 
@@ -77,6 +85,25 @@ impl Answer {
     }
 }
 
+/// The word for a static fault.
+fn kind_text(kind: StaticKind) -> &'static str
+    ensures { result.now ≡ text_of_kind kind }
+{
+    match kind {
+        StaticKind::Unknown => "Unknown",
+        StaticKind::Twice => "Twice",
+        StaticKind::Kind => "Kind",
+        StaticKind::Mismatch => "Mismatch",
+        StaticKind::Range => "Range",
+        StaticKind::Constant => "Constant",
+        StaticKind::Wide => "Wide",
+        StaticKind::Shape => "Shape",
+        StaticKind::Cells => "Cells",
+        StaticKind::Undefined => "Undefined",
+        StaticKind::FirstMissing => "FirstMissing",
+    }
+}
+
 /// The word for a mistake.
 fn mistake_text(mistake: Mistake) -> &'static str
     ensures { result.now ≡ text_of_mistake mistake }
@@ -87,6 +114,7 @@ fn mistake_text(mistake: Mistake) -> &'static str
         Mistake::Number => "Number",
         Mistake::Unexpected => "Unexpected",
         Mistake::Deep => "Deep",
+        Mistake::Static(kind) => kind_text(kind),
     }
 }
 

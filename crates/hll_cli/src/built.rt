@@ -8,7 +8,7 @@ ghost use Rattle.hll_cli.specs.Accepted.{is_boolean_link, is_single, is_bool as 
 use hll_tree::{Decl, Declarator, Expr, Form, HllModel, Link, Op, Section, TypeText};
 
 /// Whether the operator is one of Boolean chains.
-pub fn is_boolean_op(op: Op) -> bool
+fn is_boolean_op(op: Op) -> bool
     ensures { result ≡ is_boolean_operator op }
 {
     match op {

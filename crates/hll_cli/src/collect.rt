@@ -1,12 +1,9 @@
 //! What a text declares, and what is asked of it.
 
-ghost use Rattle.std.specs.Prelude.{◌≡◌, ℕ, ◌≤◌, ◌<◌, ◌++◌, List, length, map, IsTrue, ◌↔◌, IfOk, OnOk};
-ghost use Rattle.std.specs.List.{flat_map, IsDistinct};
-ghost use Rattle.std.specs.Str.{bytes_eq};
+ghost use Rattle.std.specs.Prelude.{◌≡◌, ◌++◌, map, IfOk, OnOk};
 ghost use Rattle.hll_meaning.specs.Runs.{obligations_in, obligations};
 ghost use Rattle.hll_cli.specs.BooleanTexts.{declared_names, input_names_in, input_names};
 
-use crate::table::position;
 use hll_tree::{Decl, Expr, HllModel, Section};
 use std::alloc::{AllocError, Global};
 
@@ -83,17 +80,4 @@ pub fn asked(alloc: Global, model: &HllModel) -> Result<Vec<&Expr>, AllocError>
         push_obligations(&mut obligations, section)?;
     }
     Ok(obligations)
-}
-
-/// Whether no two of these names are equal. They are few.
-pub fn are_distinct(names: &[&[u8]]) -> bool
-    ensures { IsTrue result ↔ IsDistinct bytes_eq (map (λ n. n.now) names.now) }
-{
-    for (i, name) in names.iter().enumerate() {
-        match position(&names[i + 1..], name) {
-            Some(_) => return false,
-            None => {}
-        }
-    }
-    true
 }

@@ -7,9 +7,10 @@ ghost use Rattle.hll_cli.specs.declared.fault.Fault.TheVariants as fault;
 ghost use Rattle.hll_cli.specs.declared.fault.Refusal.{Refusal as TheRefusal};
 
 use crate::built::is_built;
-use crate::collect::{are_distinct, asked, inputs};
+use crate::collect::{asked, inputs};
 use crate::fault::{Fault, Refusal};
 use crate::report::{any_falsified, report};
+use crate::rules::check_rules;
 use crate::syntax::model_of;
 use crate::table::MAX_INPUTS;
 use crate::verdict::verdicts;
@@ -31,17 +32,16 @@ pub fn decide(alloc: Global, text: &[u8]) -> Result<Decided, Fault>
     ensures refused { (r : TheRefusal) → result ≡ Err (fault.Refused r) → IsTextRefusal text.now r }
 {
     let spelled = model_of(alloc, text)?;
+    check_rules(alloc, text, &spelled.model)?;
     if spelled.tokens > MAX_TOKENS || !is_built(&spelled.model) {
         return Err(Fault::Refused(Refusal::Unbuilt));
     }
     let names = inputs(alloc, &spelled.model)?;
-    if names.len() > MAX_INPUTS || !are_distinct(&names) {
+    if names.len() > MAX_INPUTS {
         return Err(Fault::Refused(Refusal::Unbuilt));
     }
     let obligations = asked(alloc, &spelled.model)?;
-    let Some(verdicts) = verdicts(alloc, &names, &obligations)? else {
-        return Err(Fault::Refused(Refusal::Unbuilt));
-    };
+    let verdicts = verdicts(alloc, &names, &obligations)?;
     let output = report(alloc, text, &names, &obligations, verdicts.as_slice())?;
     let falsified = any_falsified(verdicts.as_slice());
     Ok(Decided { output, falsified })

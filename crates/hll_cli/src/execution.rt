@@ -1,10 +1,11 @@
 //! The top call: it does all that the program does.
 
 ghost use Rattle.std.specs.Prelude.{◌≡◌, ℕ, List, ◌⊎◌, map, string_bytes, Some, None, IfSome, IfOk, true, false};
-ghost use Rattle.command_line.specs.Words.{Request, Prove, Format, request_of, model_of};
+ghost use Rattle.command_line.specs.Words.{Request, Prove, Check, Format, request_of, file_of};
 ghost use Rattle.ports.specs.Causes.{Rose, SameCounts};
 ghost use Rattle.ports.specs.Contents.{Tells, SameFiles};
-ghost use Rattle.hll_cli.specs.Answers.{IsAnswer, HasAnswer, IsAnswered, Writes, WritesFront, Ends, IsStatus, IsReported, IsDone};
+ghost use Rattle.hll_cli.specs.Answers.{IsAnswer, HasAnswer, IsAnswered, Writes, WritesFront, Ends, IsStatus, IsReported, IsSummarized, IsDone};
+ghost use Rattle.hll_cli.specs.Check.{IsChecked, IsDoubted, HasEvidence};
 ghost use Rattle.hll_cli.specs.Format.{IsFormatted, HasModel};
 ghost use Rattle.hll_cli.specs.Lines.{usage_line, refusal_line};
 ghost use Rattle.hll_cli.specs.Prove.{IsDecided, IsTextRefusal, HasAcceptedModel};
@@ -14,6 +15,7 @@ ghost use Rattle.hll_cli.specs.declared.answer.Status.TheVariants as status;
 ghost use Rattle.hll_cli.specs.declared.fault.Refusal.TheVariants as refusal;
 
 use crate::answer::{Answer, Status};
+use crate::check::check;
 use crate::format::format;
 use crate::prove::prove;
 use command_line::Command;
@@ -29,12 +31,13 @@ fn answer_to<D: Desk>(alloc: Global, words: &[String], desk: &mut D) -> Result<A
     ensures idle { let view = view_of (D.told desk.old) (D.read_faults desk.old) (D.read_faults desk.new) (D.given desk.old) (D.given desk.new) in
         request_of (map string_bytes words.now) ≡ None → ReadsNothing view }
     ensures others { let view = view_of (D.told desk.old) (D.read_faults desk.old) (D.read_faults desk.new) (D.given desk.old) (D.given desk.new) in
-        (r : Request) → request_of (map string_bytes words.now) ≡ Some r → ReadsOnly (model_of r) view }
+        (r : Request) → request_of (map string_bytes words.now) ≡ Some r → ReadsOnly (file_of r) view }
     ensures writes { SameCounts (D.write_faults desk.old) (D.write_faults desk.new) }
 {
     match Command::read(alloc, words)? {
         None => Answer::usage(alloc),
         Some(Command::Prove { model }) => prove(alloc, desk, model),
+        Some(Command::Check { evidence }) => check(alloc, desk, evidence),
         Some(Command::Format { model }) => format(alloc, desk, model),
     }
 }
@@ -50,7 +53,7 @@ fn execute<D: Desk, O: Sink>(alloc: Global, words: &[String], desk: &mut D, out:
     ensures idle { let view = view_of (D.told desk.old) (D.read_faults desk.old) (D.read_faults desk.new) (D.given desk.old) (D.given desk.new) in
         request_of (map string_bytes words.now) ≡ None → ReadsNothing view }
     ensures others { let view = view_of (D.told desk.old) (D.read_faults desk.old) (D.read_faults desk.new) (D.given desk.old) (D.given desk.new) in
-        (r : Request) → request_of (map string_bytes words.now) ≡ Some r → ReadsOnly (model_of r) view }
+        (r : Request) → request_of (map string_bytes words.now) ≡ Some r → ReadsOnly (file_of r) view }
     ensures writes { SameCounts (D.write_faults desk.old) (D.write_faults desk.new) }
 {
     match answer_to(alloc, words, desk) {
@@ -97,6 +100,22 @@ pub fn run<R: Threads + Sync, D: Desk, O: Sink, G: Gate + Sync>(
         ⊎ Rose (D.read_faults desk.old name) (D.read_faults desk.new name)
         ⊎ Rose (O.faults out.old) (O.faults out.new)) }
 
+    // `check`: the file holds evidence that is accepted, all printed obligations are proved, or one is falsified, or else one is
+    // undecided; or the file is refused.
+    ensures checked_proved { (name : List ℕ) → request_of (map string_bytes words.now) ≡ Some (Check name) → result ≡ 0
+        → Tells (O.told out.old) (O.told out.new) (Writes (IsChecked (view_of (D.told desk.old) (D.read_faults desk.old) (D.read_faults desk.new) (D.given desk.old) (D.given desk.new)) name status.Done)) }
+    ensures checked_falsified { (name : List ℕ) → request_of (map string_bytes words.now) ≡ Some (Check name) → result ≡ 1
+        → Tells (O.told out.old) (O.told out.new) (Writes (IsChecked (view_of (D.told desk.old) (D.read_faults desk.old) (D.read_faults desk.new) (D.given desk.old) (D.given desk.new)) name status.Falsified)) }
+    ensures checked_undecided { (name : List ℕ) → request_of (map string_bytes words.now) ≡ Some (Check name) → result ≡ 2
+        → Tells (O.told out.old) (O.told out.new) (Writes (IsChecked (view_of (D.told desk.old) (D.read_faults desk.old) (D.read_faults desk.new) (D.given desk.old) (D.given desk.new)) name status.Undecided)) }
+    ensures unaccepted { (name : List ℕ) → request_of (map string_bytes words.now) ≡ Some (Check name) → result ≡ 8
+        → Tells (O.told out.old) (O.told out.new) (Writes (IsDoubted (view_of (D.told desk.old) (D.read_faults desk.old) (D.read_faults desk.new) (D.given desk.old) (D.given desk.new)) name)) }
+    // Evidence that is accepted gets its summary, unless its file or the output fails, or memory runs out.
+    ensures check_complete { (name : List ℕ) → request_of (map string_bytes words.now) ≡ Some (Check name)
+        → IfSome (D.told desk.old) (λ files. HasEvidence files name → IsSummarized result
+        ⊎ Rose (D.read_faults desk.old name) (D.read_faults desk.new name)
+        ⊎ Rose (O.faults out.old) (O.faults out.new)) }
+
     // `format`: the one layout of the model is printed, or the text is refused.
     ensures formatted { (name : List ℕ) → request_of (map string_bytes words.now) ≡ Some (Format name) → result ≡ 0
         → Tells (O.told out.old) (O.told out.new) (Writes (IsFormatted (view_of (D.told desk.old) (D.read_faults desk.old) (D.read_faults desk.new) (D.given desk.old) (D.given desk.new)) name)) }
@@ -108,11 +127,11 @@ pub fn run<R: Threads + Sync, D: Desk, O: Sink, G: Gate + Sync>(
         ⊎ Rose (D.read_faults desk.old name) (D.read_faults desk.new name)
         ⊎ Rose (O.faults out.old) (O.faults out.new)) }
 
-    // A model that could not be read.
+    // A file that could not be read.
     ensures unread { (r : Request) → request_of (map string_bytes words.now) ≡ Some r → result ≡ 5
-        → Tells (O.told out.old) (O.told out.new) (Writes (λ output. output ≡ refusal_line (model_of r) refusal.Unread)) }
+        → Tells (O.told out.old) (O.told out.new) (Writes (λ output. output ≡ refusal_line (file_of r) refusal.Unread)) }
     ensures unread_cause { (r : Request) → request_of (map string_bytes words.now) ≡ Some r → result ≡ 5
-        → Rose (D.read_faults desk.old (model_of r)) (D.read_faults desk.new (model_of r)) }
+        → Rose (D.read_faults desk.old (file_of r)) (D.read_faults desk.new (file_of r)) }
 
     // An output that breaks off is a front of what this call would have answered, and not all of it.
     ensures unwritten_cause { result ≡ 6 → Rose (O.faults out.old) (O.faults out.new) }
@@ -121,10 +140,10 @@ pub fn run<R: Threads + Sync, D: Desk, O: Sink, G: Gate + Sync>(
     ensures memory { result ≡ 7 → Tells (O.told out.old) (O.told out.new) (λ before now. (now ≡ before)
         ⊎ WritesFront (IsAnswer (request_of (map string_bytes words.now)) (view_of (D.told desk.old) (D.read_faults desk.old) (D.read_faults desk.new) (D.given desk.old) (D.given desk.new))) before now) }
 
-    // No file is changed, and no file is read but the model.
+    // No file is changed, and none is read but the one that is asked about.
     ensures files { Tells (D.told desk.old) (D.told desk.new) SameFiles }
     ensures other_reads { (r : Request) → request_of (map string_bytes words.now) ≡ Some r
-        → ReadsOnly (model_of r) (view_of (D.told desk.old) (D.read_faults desk.old) (D.read_faults desk.new) (D.given desk.old) (D.given desk.new)) }
+        → ReadsOnly (file_of r) (view_of (D.told desk.old) (D.read_faults desk.old) (D.read_faults desk.new) (D.given desk.old) (D.given desk.new)) }
     ensures writes { SameCounts (D.write_faults desk.old) (D.write_faults desk.new) }
 {
     execute(alloc, words, desk, out).code()

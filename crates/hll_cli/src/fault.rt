@@ -5,6 +5,7 @@ ghost use Rattle.hll_cli.specs.Faults.{fault_of_read};
 ghost use Rattle.hll_cli.specs.declared.fault.Fault.TheVariants as fault;
 
 use hll_lexer::LineColumn;
+use hll_meaning::StaticKind;
 use ports::ReadFault;
 use std::alloc::AllocError;
 use thiserror::Error;
@@ -22,6 +23,9 @@ pub enum Mistake {
     Unexpected,
     #[error("too many levels are open")]
     Deep,
+    /// A text of the language breaks a static rule.
+    #[error("a static rule is broken: {0:?}")]
+    Static(StaticKind),
 }
 
 /// What is wrong with a file that a command reads. It is printed.
@@ -33,7 +37,7 @@ pub enum Refusal {
     /// The file has more bytes than a text may have.
     #[error("the file is too long")]
     Long,
-    /// The text isn't one of the language.
+    /// The text isn't one of the language, or breaks a static rule.
     #[error("{0} at {1:?}")]
     Misplaced(Mistake, LineColumn),
     /// The text has a form that isn't built, or passes a limit.

@@ -1,8 +1,9 @@
-//! The commands: they read texts, decide or print them, and say what was found.
+//! The commands: they read texts and evidence, decide, check or print them, and say what was found.
 #![tactic(auto)]
 
 mod answer;
 mod built;
+mod check;
 mod collect;
 mod decision;
 mod execution;
@@ -11,6 +12,8 @@ mod format;
 mod line;
 mod prove;
 mod report;
+mod rules;
+mod summary;
 mod syntax;
 mod table;
 mod verdict;

@@ -1,6 +1,7 @@
 //! How values and lines are printed.
 
 ghost use Rattle.std.specs.Prelude.{◌≡◌, ◌++◌, List, ℕ, decimal, OnOk};
+ghost use Rattle.std.specs.Fmt.{signed_decimal};
 ghost use Rattle.hll_cli.specs.Lines.{truth_text, place_text, heading_text, totals_text};
 
 use hll_lexer::LineColumn;
@@ -18,6 +19,15 @@ pub(crate) trait Printed {
 
 impl Printed for u64 {
     ghost text = { λ number. decimal number };
+
+    fn print(&self, out: &mut Vec<u8>) -> Result<(), AllocError> {
+        let mut buffer = Buffer::new();
+        out.extend_from_slice(buffer.format(*self).as_bytes())
+    }
+}
+
+impl Printed for i32 {
+    ghost text = { λ number. signed_decimal number };
 
     fn print(&self, out: &mut Vec<u8>) -> Result<(), AllocError> {
         let mut buffer = Buffer::new();

@@ -1,13 +1,12 @@
 //! Truth tables: the column of an expression has its value at each row of the inputs.
 
-ghost use Rattle.std.specs.Prelude.{◌≡◌, ℕ, ◌≤◌, ◌<◌, ◌^◌, List, ◌∷◌, length, map, Contains, IfSome, IfNone, OnSome, IfOk, Bool, true, false, not, ◌||◌};
+ghost use Rattle.std.specs.Prelude.{◌≡◌, ℕ, ◌≤◌, ◌<◌, ◌^◌, List, ◌∷◌, length, map, Contains, IfOk, Bool, true, false, not, ◌||◌};
 ghost use Rattle.std.specs.List.{slice_index_or};
 ghost use Rattle.hll_tree.specs.declared.tree.Op.{Op};
 ghost use Rattle.hll_cli.specs.BooleanTexts.{UsesOnly, is_boolean_op as is_boolean_operator, is_boolean};
 ghost use Rattle.hll_cli.specs.Accepted.{input_limit};
 ghost use Rattle.hll_cli.specs.Table.{value_at, chain_value, row, IsColumn};
 
-use crate::built::is_boolean_op;
 use hll_tree::{Expr, Form, Op};
 use std::alloc::{AllocError, Global};
 
@@ -46,20 +45,19 @@ fn input(alloc: Global, inputs: usize, position: usize) -> Result<Vec<bool>, All
     Ok(column)
 }
 
-/// The position of a name among the inputs.
-pub fn position(names: &[&[u8]], name: &[u8]) -> Option<usize>
-    ensures there { IfSome result (λ i. i < length names.now) }
-    ensures found { IfSome result (λ i. Contains (map (λ n. n.now) names.now) name.now) }
-    ensures value { IfSome result (λ i. (values : List Bool) → length values ≡ length names.now →
-        value_at (map (λ n. n.now) names.now) values name.now ≡ slice_index_or values i false) }
-    ensures none { IfNone result (Contains (map (λ n. n.now) names.now) name.now → ⊥) }
+/// The position of an input, by its name.
+fn position(names: &[&[u8]], name: &[u8]) -> usize
+    requires { Contains (map (λ n. n.now) names.now) name.now }
+    ensures there { result < length names.now }
+    ensures value { (values : List Bool) → length values ≡ length names.now →
+        value_at (map (λ n. n.now) names.now) values name.now ≡ slice_index_or values result false }
 {
     for (i, n) in names.iter().enumerate() {
         if *n == name {
-            return Some(i);
+            return i;
         }
     }
-    None
+    unreachable!()
 }
 
 /// The opposite at each row.
@@ -120,45 +118,39 @@ fn or(column: &mut [bool], other: &[bool])
     }
 }
 
-/// The column of a Boolean expression over these inputs, if it uses no other names.
+/// The column of a Boolean expression over these inputs.
 #[tactic(auto, using(crate::proofs::Booleans::not_number, crate::proofs::Booleans::not_compare, crate::proofs::Booleans::not_minus, crate::proofs::Booleans::not_choice, crate::proofs::Booleans::not_group, crate::proofs::Booleans::not_quant, crate::proofs::Booleans::not_pre, crate::proofs::Booleans::not_least, crate::proofs::Booleans::not_greatest, crate::proofs::Booleans::not_size, crate::proofs::Booleans::not_starting, crate::proofs::Booleans::not_within))]
-pub fn column(alloc: Global, names: &[&[u8]], expr: &Expr) -> Result<Option<Vec<bool>>, AllocError>
-    requires { length names.now ≤ input_limit }
-    ensures column { IfOk result (λ found. IfSome found (λ c. IsColumn (map (λ n. n.now) names.now) expr.now c.items)) }
-    ensures declared { IfOk result (λ found. OnSome found (UsesOnly (map (λ n. n.now) names.now) expr.now)) }
-    ensures unknown { IfOk result (λ found. IfNone found
-        (is_boolean expr.now ≡ true → UsesOnly (map (λ n. n.now) names.now) expr.now → ⊥)) }
+pub fn column(alloc: Global, names: &[&[u8]], expr: &Expr) -> Result<Vec<bool>, AllocError>
+    requires few { length names.now ≤ input_limit }
+    requires boolean { is_boolean expr.now ≡ true }
+    requires declared { UsesOnly (map (λ n. n.now) names.now) expr.now }
+    ensures { IfOk result (λ c. IsColumn (map (λ n. n.now) names.now) expr.now c.items) }
 {
     let rows = rows(names.len());
     match &expr.form {
-        Form::Truth(value) => Ok(Some(constant(alloc, rows, *value)?)),
-        Form::Path(name, _) => match position(names, name.text.bytes()) {
-            None => Ok(None),
-            Some(position) => Ok(Some(input(alloc, names.len(), position)?)),
-        },
+        Form::Truth(value) => {
+            let column = constant(alloc, rows, *value)?;
+            Ok(column)
+        }
+        Form::Path(name, _) => {
+            let position = position(names, name.text.bytes());
+            let column = input(alloc, names.len(), position)?;
+            Ok(column)
+        }
         Form::Not(inner) => {
-            let Some(mut column) = column(alloc, names, inner.get())? else {
-                return Ok(None);
-            };
+            let mut column = column(alloc, names, inner.get())?;
             negate(&mut column);
-            Ok(Some(column))
+            Ok(column)
         }
         Form::Chain(first, links) => {
-            let Some(mut value) = column(alloc, names, first.get())? else {
-                return Ok(None);
-            };
+            let mut value = column(alloc, names, first.get())?;
             let mut settled = constant(alloc, rows, false)?;
             for link in links.as_slice() {
-                if !is_boolean_op(link.op) {
-                    return Ok(None);
-                }
-                let Some(next) = column(alloc, names, &link.with)? else {
-                    return Ok(None);
-                };
+                let next = column(alloc, names, &link.with)?;
                 take_links(link.op, &mut settled, &mut value, &next);
             }
             or(&mut value, &settled);
-            Ok(Some(value))
+            Ok(value)
         }
         Form::Number(_)
         | Form::Compare(_, _, _)
@@ -171,6 +163,6 @@ pub fn column(alloc: Global, names: &[&[u8]], expr: &Expr) -> Result<Option<Vec<
         | Form::Greatest(_)
         | Form::Size(_)
         | Form::Starting
-        | Form::Within(_, _) => Ok(None),
+        | Form::Within(_, _) => unreachable!(),
     }
 }

@@ -1,6 +1,6 @@
 //! Verdicts on obligations, by a truth table for each.
 
-ghost use Rattle.std.specs.Prelude.{◌≡◌, ℕ, ◌≤◌, ◌<◌, List, [], ◌∷◌, length, map, IfSome, IfNone, OnSome, IfOk, false, true};
+ghost use Rattle.std.specs.Prelude.{◌≡◌, ℕ, ◌≤◌, ◌<◌, List, [], ◌∷◌, length, map, IfSome, IfNone, IfOk, false, true};
 ghost use Rattle.std.specs.List.{slice_index_or, AllByRecursion, AllZip};
 ghost use Rattle.hll_cli.specs.BooleanTexts.{is_boolean, UsesOnly};
 ghost use Rattle.hll_cli.specs.Accepted.{input_limit};
@@ -50,50 +50,37 @@ fn trace(alloc: Global, values: Items<bool>) -> Result<Items<Items<bool>>, Alloc
     Ok(rows)
 }
 
-/// The verdict on an obligation over these inputs, if it uses no other names.
-fn verdict_on(
-    alloc: Global,
-    names: &[&[u8]],
-    obligation: &Expr,
-) -> Result<Option<Verdict>, AllocError>
-    requires { length names.now ≤ input_limit }
-    ensures decided { IfOk result (λ found. IfSome found (IsDecidedBy (map (λ n. n.now) names.now) obligation.now)) }
-    ensures declared { IfOk result (λ found. OnSome found (UsesOnly (map (λ n. n.now) names.now) obligation.now)) }
-    ensures unknown { IfOk result (λ found. IfNone found
-        (is_boolean obligation.now ≡ true → UsesOnly (map (λ n. n.now) names.now) obligation.now → ⊥)) }
+/// The verdict on a Boolean obligation over these inputs.
+fn verdict_on(alloc: Global, names: &[&[u8]], obligation: &Expr) -> Result<Verdict, AllocError>
+    requires few { length names.now ≤ input_limit }
+    requires boolean { is_boolean obligation.now ≡ true }
+    requires declared { UsesOnly (map (λ n. n.now) names.now) obligation.now }
+    ensures { IfOk result (IsDecidedBy (map (λ n. n.now) names.now) obligation.now) }
 {
-    let Some(column) = column(alloc, names, obligation)? else {
-        return Ok(None);
-    };
+    let column = column(alloc, names, obligation)?;
     match first_false(&column) {
-        None => Ok(Some(Verdict::Proved(1))),
+        None => Ok(Verdict::Proved(1)),
         Some(number) => {
             let values = instant(alloc, names.len(), number)?;
-            Ok(Some(Verdict::Falsified(trace(alloc, values)?)))
+            Ok(Verdict::Falsified(trace(alloc, values)?))
         }
     }
 }
 
-/// The verdicts on obligations over these inputs, in order, if they use no other names.
+/// The verdicts on Boolean obligations over these inputs, in order.
 pub fn verdicts(
     alloc: Global,
     names: &[&[u8]],
     obligations: &[&Expr],
-) -> Result<Option<Items<Verdict>>, AllocError>
-    requires { length names.now ≤ input_limit }
-    ensures decided { IfOk result (λ found. IfSome found
-        (AllZip (IsDecidedBy (map (λ n. n.now) names.now)) (map (λ e. e.now) obligations.now))) }
-    ensures declared { IfOk result (λ found. OnSome found
-        (AllByRecursion (UsesOnly (map (λ n. n.now) names.now)) (map (λ e. e.now) obligations.now))) }
-    ensures unknown { IfOk result (λ found. IfNone found
-        (AllByRecursion (λ e. is_boolean e ≡ true) (map (λ e. e.now) obligations.now) → AllByRecursion (UsesOnly (map (λ n. n.now) names.now)) (map (λ e. e.now) obligations.now) → ⊥)) }
+) -> Result<Items<Verdict>, AllocError>
+    requires few { length names.now ≤ input_limit }
+    requires boolean { AllByRecursion (λ e. is_boolean e ≡ true) (map (λ e. e.now) obligations.now) }
+    requires declared { AllByRecursion (UsesOnly (map (λ n. n.now) names.now)) (map (λ e. e.now) obligations.now) }
+    ensures { IfOk result (AllZip (IsDecidedBy (map (λ n. n.now) names.now)) (map (λ e. e.now) obligations.now)) }
 {
     let mut verdicts = Items::new(alloc);
     for obligation in obligations {
-        match verdict_on(alloc, names, obligation)? {
-            None => return Ok(None),
-            Some(verdict) => verdicts.push(verdict)?,
-        }
+        verdicts.push(verdict_on(alloc, names, obligation)?)?;
     }
-    Ok(Some(verdicts))
+    Ok(verdicts)
 }

@@ -16,6 +16,3 @@ mod types;
 pub use fault::SyntaxFault;
 pub use law::{fault_spells_nothing, one_fault, one_model};
 pub use model::parse;
-
-#[cfg(test)]
-mod tests;

@@ -1,4 +1,4 @@
-use crate::memory::{file, prove, run_over};
+use crate::memory::{answer, file, prove, run_over};
 use ports::{MemoryDesk, MemorySink};
 use std::test::Fail;
 
@@ -73,10 +73,10 @@ struct Run {
     output: &'static [u8],
 }
 
-const USAGE: &[u8] = b"usage: hll prove MODEL | hll format MODEL\n";
+const USAGE: &[u8] = b"usage: hll prove MODEL | hll check EVIDENCE | hll format MODEL\n";
 
 /// The runs on one model.
-const RUNS: [Run; 13] = [
+const RUNS: [Run; 17] = [
     Run {
         line: "prove m",
         failing_read: 0,
@@ -164,11 +164,40 @@ const RUNS: [Run; 13] = [
         output: USAGE,
     },
     Run {
-        line: "check m",
+        line: "check",
         failing_read: 0,
         failing_write: 0,
         status: 4,
         output: USAGE,
+    },
+    // A text is no evidence.
+    Run {
+        line: "check m",
+        failing_read: 0,
+        failing_write: 0,
+        status: 8,
+        output: b"refused evidence line 1 Form\n",
+    },
+    Run {
+        line: "check m",
+        failing_read: 1,
+        failing_write: 0,
+        status: 5,
+        output: b"refused read m\n",
+    },
+    Run {
+        line: "check m",
+        failing_read: 2,
+        failing_write: 0,
+        status: 5,
+        output: b"refused read m\n",
+    },
+    Run {
+        line: "check m",
+        failing_read: 0,
+        failing_write: 1,
+        status: 6,
+        output: b"",
     },
 ];
 
@@ -197,7 +226,7 @@ struct Mistaken {
     line: &'static [u8],
 }
 
-const MISTAKEN: [Mistaken; 14] = [
+const MISTAKEN: [Mistaken; 15] = [
     Mistaken {
         text: b"Inputs: bool a;\nProof Obligations: a ! a;\n",
         line: b"refused Stray at 2:22\n",
@@ -238,10 +267,14 @@ const MISTAKEN: [Mistaken; 14] = [
         text: b"Inputs: bool '';",
         line: b"refused Stray at 1:14\n",
     },
-    // A mistake of the tokens comes before one of the grammar, and this before a form that isn't built.
+    // A mistake of the tokens comes before one of the grammar, and this before a static fault and a form that isn't built.
     Mistaken {
         text: b"Inputs: bool a b; 'c",
         line: b"refused Unclosed at 1:19\n",
+    },
+    Mistaken {
+        text: b"Inputs: bool a, a; b",
+        line: b"refused Unexpected at 1:21\n",
     },
     Mistaken {
         text: b"Types: bool t; Inputs: bool a b;",
@@ -263,6 +296,80 @@ fn each_first_mistake_is_named_with_its_place(rt: HostRuntime) -> Result<(), Fai
         let (answered, out) = prove(&rt, rt.alloc(), case.text)?;
         assert_eq!(rt; out.bytes(), case.line);
         assert_eq!(rt; answered, 3);
+    }
+    Ok(())
+}
+
+/// A text for each kind of static fault, and texts with several.
+const FAULTY: [Mistaken; 14] = [
+    Mistaken {
+        text: b"Inputs: bool a;\nProof Obligations: a -> b;",
+        line: b"refused Unknown at 2:25\n",
+    },
+    Mistaken {
+        text: b"Inputs: bool a, a;",
+        line: b"refused Twice at 1:17\n",
+    },
+    Mistaken {
+        text: b"Types: bool T; Proof Obligations: T;",
+        line: b"refused Kind at 1:35\n",
+    },
+    Mistaken {
+        text: b"Inputs: bool a; Proof Obligations: a & 1;",
+        line: b"refused Mismatch at 1:40\n",
+    },
+    Mistaken {
+        text: b"Types: int [3, 2] T;",
+        line: b"refused Range at 1:13\n",
+    },
+    Mistaken {
+        text: b"Constants: int N := x; Inputs: bool x;",
+        line: b"refused Constant at 1:21\n",
+    },
+    Mistaken {
+        text: b"Inputs: int unsigned 64 u; Proof Obligations: u + 1 > u;",
+        line: b"refused Wide at 1:49\n",
+    },
+    Mistaken {
+        text: b"Declarations: bool x[2]; Definitions: x[i, j] := true;",
+        line: b"refused Shape at 1:44\n",
+    },
+    Mistaken {
+        text: b"Inputs: bool a[100000]; bool b;",
+        line: b"refused Cells at 1:30\n",
+    },
+    Mistaken {
+        text: b"Declarations: bool x;",
+        line: b"refused Undefined at 1:20\n",
+    },
+    Mistaken {
+        text: b"Inputs: bool a; Proof Obligations: pre(a);",
+        line: b"refused FirstMissing at 1:36\n",
+    },
+    // What is declared comes before what is asked, wherever it stands.
+    Mistaken {
+        text: b"Proof Obligations: b;\nInputs: bool a, a;",
+        line: b"refused Twice at 2:17\n",
+    },
+    // A static fault comes before a form that isn't built, and before a limit.
+    Mistaken {
+        text: b"Inputs: int [0, 3] d; bool a, a;",
+        line: b"refused Twice at 1:31\n",
+    },
+    Mistaken {
+        text: b"Inputs: bool a, b, c, d, e, f, g, h, i, j, k, l, m, a;",
+        line: b"refused Twice at 1:53\n",
+    },
+];
+
+#[test]
+fn each_first_static_fault_is_named_with_its_place(rt: HostRuntime) -> Result<(), Fail> {
+    for case in &FAULTY {
+        let (answered, out) = prove(&rt, rt.alloc(), case.text)?;
+        assert_eq!(rt; out.bytes(), case.line);
+        assert_eq!(rt; answered, 3);
+        let (printed, _) = answer(&rt, rt.alloc(), "format m", case.text)?;
+        assert_eq!(rt; printed, 0);
     }
     Ok(())
 }

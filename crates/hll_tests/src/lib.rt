@@ -6,6 +6,8 @@ mod answers;
 #[cfg(test)]
 mod endless;
 #[cfg(test)]
+mod evidence_files;
+#[cfg(test)]
 mod fronts;
 #[cfg(test)]
 mod layouts;

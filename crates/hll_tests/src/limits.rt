@@ -231,7 +231,7 @@ const LONG: [Nested; 9] = [
         closing: b"",
         tail: b"1;",
         status: 3,
-        output: UNBUILT,
+        output: b"refused Mismatch at 1:20\n",
     },
     Nested {
         head: b"Proof Obligations: ",
@@ -293,7 +293,6 @@ fn a_chain_of_200_000_operands_is_printed(rt: HostRuntime) -> Result<(), Fail> {
 #[test]
 fn inputs_are_limited_and_declared_once(rt: HostRuntime) -> Result<(), Fail> {
     let alloc = rt.alloc();
-    let unbuilt = b"refused Unbuilt\n";
     let table: [(&[u8], u8, &[u8]); 5] = [
         (
             b"Inputs: bool a, b, c, d, e, f, g, h, i, j, k, l; Proof Obligations: l;",
@@ -303,11 +302,19 @@ fn inputs_are_limited_and_declared_once(rt: HostRuntime) -> Result<(), Fail> {
         (
             b"Inputs: bool a, b, c, d, e, f, g, h, i, j, k, l, m;",
             3,
-            unbuilt,
+            UNBUILT,
         ),
-        (b"Inputs: bool a, b, a;", 3, unbuilt),
-        (b"Inputs: bool a; Inputs: bool a;", 3, unbuilt),
-        (b"Inputs: bool a; Proof Obligations: a -> b;", 3, unbuilt),
+        (b"Inputs: bool a, b, a;", 3, b"refused Twice at 1:20\n"),
+        (
+            b"Inputs: bool a; Inputs: bool a;",
+            3,
+            b"refused Twice at 1:30\n",
+        ),
+        (
+            b"Inputs: bool a; Proof Obligations: a -> b;",
+            3,
+            b"refused Unknown at 1:41\n",
+        ),
     ];
     for (text, status, output) in table {
         let (answered, out) = prove(&rt, alloc, text)?;

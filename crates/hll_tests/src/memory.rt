@@ -2,8 +2,9 @@
 
 ghost use Rattle.std.specs.Prelude.{◌≡◌, IfOk, List, ℕ, Some, length, map, string_bytes};
 ghost use Rattle.ports.specs.DeskState.{file_or_empty};
-ghost use Rattle.command_line.specs.Words.{request_of, Prove, Format};
-ghost use Rattle.hll_cli.specs.Answers.{IsReported, IsDone};
+ghost use Rattle.command_line.specs.Words.{request_of, Prove, Check, Format};
+ghost use Rattle.hll_cli.specs.Answers.{IsReported, IsSummarized, IsDone};
+ghost use Rattle.hll_cli.specs.Check.{HasEvidence};
 ghost use Rattle.hll_cli.specs.Format.{HasModel};
 ghost use Rattle.hll_cli.specs.Prove.{HasAcceptedModel};
 ghost use Rattle.hll_cli.specs.Texts.{HasText};
@@ -47,8 +48,8 @@ pub fn run_over<R: Threads + Sync, D: Desk, O: Sink>(
     Ok(run(rt, alloc, &words, desk, out, &OpenGate))
 }
 
-/// Runs words over ports that only want of memory stops. There a text that is accepted gets its report, and one that
-/// spells a model its layout, unless memory runs out.
+/// Runs words over ports that only want of memory stops. There a text that is accepted gets its report, evidence that is
+/// accepted its summary, and a text that spells a model its layout, unless memory runs out.
 fn run_surely<R: Threads + Sync>(
     rt: &R,
     alloc: Global,
@@ -58,6 +59,8 @@ fn run_surely<R: Threads + Sync>(
 ) -> u8
     ensures prove { (name : List ℕ) → request_of (map string_bytes words.now) ≡ Some (Prove name)
         → HasText (file_or_empty desk.old.files) name HasAcceptedModel → IsReported result }
+    ensures check { (name : List ℕ) → request_of (map string_bytes words.now) ≡ Some (Check name)
+        → HasEvidence (file_or_empty desk.old.files) name → IsSummarized result }
     ensures format { (name : List ℕ) → request_of (map string_bytes words.now) ≡ Some (Format name)
         → HasText (file_or_empty desk.old.files) name HasModel → IsDone result }
 {

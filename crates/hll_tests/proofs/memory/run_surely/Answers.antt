@@ -19,3 +19,10 @@ returns-clause-format g c = λ name asked has.
       | inl done ↦ done
       | inr failed ↦ elim failed [ inl rose ↦ absurd (never rose) | inr rose ↦ absurd (never rose) ]
     ]
+
+pub returns-clause-check : goal.returns-clause-check
+returns-clause-check g c = λ name asked has.
+    elim (c.run.ensures.check_complete name asked has) [
+      | inl summarized ↦ summarized
+      | inr failed ↦ elim failed [ inl rose ↦ absurd (never rose) | inr rose ↦ absurd (never rose) ]
+    ]

@@ -1,0 +1,5 @@
+//! Texts with their trees, and texts that the grammar refuses.
+#![tactic(auto)]
+
+#[cfg(test)]
+mod texts;

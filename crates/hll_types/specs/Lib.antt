@@ -1,0 +1,17 @@
+pub mod Answers
+pub mod Things
+pub mod Scopes
+pub mod Described
+pub mod Joining
+pub mod Chains
+pub mod Choices
+pub mod Ways
+pub mod Forms
+pub mod Defining
+pub mod Measures
+pub mod Written
+pub mod Standing
+pub mod Sorting
+pub mod Declaring
+pub mod Figures
+pub mod Settling

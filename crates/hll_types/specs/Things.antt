@@ -1,0 +1,28 @@
+-- What the names that are kept stand for, as the definitions say it.
+use Rattle.std.specs.Prelude.{true, false, ◌++◌, map, Option, Some, None}
+use Rattle.hll_meaning.specs.Names.{Thing as Said, constant, type_of, code_in, variable, later, Names}
+use Rattle.hll_meaning.specs.Types.{kind_of}
+use Rattle.hll_meaning.specs.Values.{of_truth, number}
+use Rattle.hll_types.specs.declared.things.Found.{Found}
+use Rattle.hll_types.specs.declared.things.Found.TheVariants as found
+use Rattle.hll_types.specs.declared.things.Thing.{Thing}
+use Rattle.hll_types.specs.declared.things.Thing.TheVariants as thing
+use Rattle.hll_types.specs.declared.things.Things.{Things}
+
+-- what a name stands for
+abbrev pub said_of : Thing → Said
+said_of (thing.Truth x) = constant true (number (of_truth x))
+said_of (thing.Number x) = constant false x.value
+said_of (thing.Type ty) = type_of (kind_of ty)
+said_of (thing.Element root code) = code_in root code
+said_of (thing.Variable input ty) = variable input (kind_of ty)
+
+-- what is found under a name
+abbrev pub thing_found : Found → Option Said
+thing_found (found.Thing t) = Some (said_of t.now)
+thing_found found.Later = Some later
+thing_found found.Nothing = None
+
+-- the names that are declared, and behind them those that stand further on
+abbrev pub names_of : Things → Names
+names_of t = map (λ e. (e.0.items, said_of e.1)) t.declared.entries ++ map (λ name. (name.items, later)) t.further.keys

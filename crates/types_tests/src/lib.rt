@@ -1,0 +1,5 @@
+//! Texts with their first static faults.
+#![tactic(auto)]
+
+#[cfg(test)]
+mod texts;
