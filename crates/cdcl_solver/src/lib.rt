@@ -12,8 +12,6 @@ mod literals;
 mod order;
 mod search;
 mod solver;
-#[cfg(test)]
-mod tests;
 mod trail;
 mod watches;
 

@@ -8,8 +8,6 @@ mod law;
 mod names;
 mod reading;
 mod signal;
-#[cfg(test)]
-mod tests;
 mod writing;
 
 pub use fault::{LllFault, LllKind};

@@ -30,6 +30,3 @@ pub use log::{Log, Step};
 pub use replay::busy;
 pub use store::Store;
 pub use verdict::check;
-
-#[cfg(test)]
-mod tests;

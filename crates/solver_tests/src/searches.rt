@@ -1,6 +1,6 @@
 //! Formulas with their answers, and each log given to the checker. A formula is written with a 0 after each clause.
 
-use crate::{Answer, MAX_BUDGET, Search, solve};
+use cdcl_solver::{Answer, MAX_BUDGET, Search, solve};
 use rup_checker::{Formula, Log, busy, check};
 use std::alloc::Global;
 use std::test::Fail;

@@ -4,7 +4,7 @@ use Rattle.lll_core.specs.declared.signal.Signal.{Signal}
 use Rattle.lll_core.specs.Signals.{is_input}
 use Rattle.lll_core.specs.Tables.{count_where}
 use Rattle.std.proofs.lemmas.List.Recursion.{is_count_by}
-use Rattle.lll_text.proofs.tests.input_count.Goals as goal
+use Rattle.lll_tests.proofs.texts.input_count.Goals as goal
 
 step : (v : Bool) (n : ℕ) → cond v (suc n) n ≡ cond v (1 + n) n
 step true n = omega arith

@@ -1,7 +1,9 @@
 //! Steps and logs with their answers. A formula is written with a 0 after each clause, a step as its clause, ":" and its
 //! hints, and a log with ";" after each step.
 
-use crate::{Checker, Formula, Log, LogFault, MAX_VARIABLES, Step, StepFault, Store, busy, check};
+use rup_checker::{
+    Checker, Formula, Log, LogFault, MAX_VARIABLES, Step, StepFault, Store, busy, check,
+};
 use sqlite_items::Items;
 use std::alloc::Global;
 use std::test::Fail;

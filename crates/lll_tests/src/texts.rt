@@ -4,8 +4,8 @@ ghost use Rattle.std.specs.Prelude.{◌≡◌, ◌+◌, ◌*◌, ◌^◌, ◌<�
 ghost use Rattle.lll_core.specs.Signals.{is_input as is_input_of};
 ghost use Rattle.lll_core.specs.Tables.{input_count as input_count_of};
 
-use crate::{LllFault, LllKind, read_lll, write_lll};
 use lll_core::{Signal, eval_into};
+use lll_text::{LllFault, LllKind, read_lll, write_lll};
 use std::alloc::{AllocError, Global};
 use std::test::Fail;
 

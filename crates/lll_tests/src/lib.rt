@@ -1,0 +1,5 @@
+//! Tests of the texts of low-level models.
+#![tactic(auto)]
+
+#[cfg(test)]
+mod texts;
