@@ -8,32 +8,21 @@ use Rattle.std.proofs.lemmas.Option.{none-some, same_Some, slice_get_within}
 use Rattle.lll_core.specs.declared.lll.Lll.{Lll}
 use Rattle.lll_text.specs.Lines.{line_feeds}
 use Rattle.kinduction.specs.declared.found.Found.{Found}
-use Rattle.kinduction.specs.declared.found.Found.TheVariants as found
 use Rattle.kinduction.specs.declared.equal.Equal.{Equal}
 use Rattle.kinduction.specs.declared.equal.Equal.TheVariants as equal
-use Rattle.kinduction.specs.Rounds.{RefuteBases}
 use Rattle.evidence.specs.declared.evidence.Evidence.{Evidence}
 use Rattle.evidence.specs.declared.fault.Cause.{Cause}
-use Rattle.evidence.specs.Accepted.{EntryHolds, IsAcceptedEntry}
+use Rattle.evidence.specs.Accepted.{IsAcceptedEntry}
 use Rattle.evidence.specs.Counts.{EntryFits, EntriesFit}
 use Rattle.evidence.specs.Spelling.{part_count, equal_text, entry_text, entries_text, models_text}
 use Rattle.evidence.specs.Lines.{entry_lines, entries_lines}
-use Rattle.evidence.specs.Refusals.{line_after, base_logs, EntryFails, EntriesFail}
-use Rattle.evidence.specs.Claims.{IsFirstOf, LastHolds}
+use Rattle.evidence.specs.Refusals.{line_after, EntryFails, EntriesFail}
+use Rattle.evidence.specs.Claims.{IsFirstOf}
 use Rattle.evidence.proofs.AtOnce.{all_at}
 use Rattle.evidence.proofs.EntryLemmas.{text_lines, entry_within}
 use Rattle.evidence.proofs.Holding.{entry_never_fails}
 use Rattle.evidence.proofs.LineLemmas.{none_there, line_feeds-append}
 use Rattle.evidence.proofs.OrderLemmas.{InOrder, value_there, first_of_list}
-
--- ---- one entry
-
--- what shows an entry is shown
-pub entry_holds : (l : Lll) (p depth budget : ℕ) (entry : Found) → EntryFits depth l entry → RefuteBases l p (base_logs entry) → LastHolds l p depth budget entry → EntryHolds l p depth budget entry
-entry_holds l p depth budget (found.Proved k bases step) fits refuted last = record { count = fits.2.long; bases_refuted = refuted; step_refuted = last }
-entry_holds l p depth budget (found.Falsified bits bases) fits refuted last = record { count = omega (arith, fits.0, fits.2.long); bases_refuted = refuted; broken = last }
-entry_holds l p depth budget (found.Depth step_model bases) fits refuted last = record { count = fits.0.long; bases_refuted = refuted; satisfied = last }
-entry_holds l p depth budget (found.Conflicts place log bases) fits refuted last = record { bases_refuted = refuted; spent = last }
 
 -- ---- entries one after the other
 

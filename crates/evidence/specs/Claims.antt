@@ -7,15 +7,12 @@ use Rattle.rup_checker.specs.declared.fault.StepFault.{StepFault}
 use Rattle.rup_checker.specs.declared.fault.StepFault.TheVariants as fault
 use Rattle.rup_checker.specs.declared.log.Log.{Log}
 use Rattle.rup_checker.specs.declared.log.Step.{Step}
-use Rattle.rup_checker.specs.Formulas.{Cnf, Satisfies, listed}
+use Rattle.rup_checker.specs.Formulas.{Cnf}
 use Rattle.rup_checker.specs.Steps.{IsRefused}
 use Rattle.rup_checker.specs.Stores.{Known}
 use Rattle.rup_checker.specs.Logs.{known, AreAccepted, IsEnded, Accepts, IsFirstRefused}
-use Rattle.unroll_cnf.specs.Unrollings.{step_formula}
 use Rattle.unroll_cnf.specs.Counterexamples.{IsAdmitted}
 use Rattle.kinduction.specs.declared.equal.Equal.{Equal}
-use Rattle.kinduction.specs.declared.found.Found.{Found}
-use Rattle.kinduction.specs.declared.found.Found.TheVariants as found
 use Rattle.kinduction.specs.Parts.{part_formula}
 use Rattle.evidence.specs.declared.evidence.Evidence.{Evidence}
 use Rattle.evidence.specs.declared.claim.ClaimFault.{ClaimFault}
@@ -24,8 +21,8 @@ use Rattle.evidence.specs.declared.fault.Cause.{Cause}
 use Rattle.evidence.specs.declared.fault.Cause.TheVariants as cause
 use Rattle.evidence.specs.declared.refutation.Refutation.{Refutation}
 use Rattle.evidence.specs.declared.trace.Trace.{Trace}
-use Rattle.evidence.specs.Accepted.{IsSmallFormula, part_instants, place_formula, IsSpentLog, EqualHolds, IsAcceptedEntry}
-use Rattle.evidence.specs.Refusals.{IsStepCause, IsTrace}
+use Rattle.evidence.specs.Accepted.{IsSmallFormula, part_instants, EqualHolds, IsAcceptedEntry}
+use Rattle.evidence.specs.Refusals.{IsStepCause}
 
 -- ---- the order of causes
 
@@ -104,13 +101,6 @@ nth_part_formula m n = part_formula m (n / 2) (n % 2 == 1)
 pub record IsAcceptedEqual (m : MiterLll) (budget : ℕ) (shown : Equal) : Type 0 where
   pub small : IsSmallFormula (part_instants shown) (length m.lll.signals)
   pub holds : EqualHolds m budget shown
-
--- what shows an entry for the obligation p holds, besides the logs of base formulas
-abbrev pub LastHolds : Lll → ℕ → ℕ → ℕ → Found → Type 0
-LastHolds l p depth budget (found.Proved k bases step) = Accepts (step_formula l p k) step.steps
-LastHolds l p depth budget (found.Falsified bits bases) = IsTrace l p (length bases) bits
-LastHolds l p depth budget (found.Depth step_model bases) = Satisfies (listed step_model) (step_formula l p depth).clauses
-LastHolds l p depth budget (found.Conflicts place log bases) = IsSpentLog (place_formula l p place) budget log
 
 -- each entry is accepted
 abbrev pub AreAcceptedEntries : Evidence → Type 0

@@ -1,5 +1,5 @@
 -- What evidence shows of each obligation, in short.
-use Rattle.std.specs.Prelude.{ℕ, ◌^◌, ◌<◌, List, [], ◌∷◌, length, map, replicate}
+use Rattle.std.specs.Prelude.{ℕ, List, [], ◌∷◌, length, map, replicate}
 use Rattle.lll_core.specs.declared.lll.Lll.{Lll}
 use Rattle.kinduction.specs.declared.equal.Equal.{Equal}
 use Rattle.kinduction.specs.declared.equal.Equal.TheVariants as equal
@@ -25,13 +25,6 @@ line_of (found.Conflicts place log bases) = line.Conflicts
 abbrev pub lines_of : Lll → Equal → List Found → List Line
 lines_of a (equal.Shown logs) entries = map line_of entries
 lines_of a (equal.Conflicts part stepping log) entries = replicate (length a.obligations) line.Equivalence
-
--- a trace has fewer than 2 ^ 32 rows
-abbrev pub HasShortTrace : Found → Type 0
-HasShortTrace (found.Proved k bases step) = Unit {0}
-HasShortTrace (found.Falsified bits bases) = length bits < 2 ^ 32
-HasShortTrace (found.Depth step_model bases) = Unit {0}
-HasShortTrace (found.Conflicts place log bases) = Unit {0}
 
 -- ---- as the lines of a text come
 

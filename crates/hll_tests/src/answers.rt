@@ -1,5 +1,6 @@
 use crate::memory::{answer, file, prove, run_over};
 use ports::{MemoryDesk, MemorySink};
+use std::alloc::{AllocError, Global};
 use std::test::Fail;
 
 #[test]
@@ -201,21 +202,74 @@ const RUNS: [Run; 17] = [
     },
 ];
 
+/// A desk with one file `m`, one of whose reads fails.
+fn desk(alloc: Global, bytes: &[u8], failing_read: u64) -> Result<MemoryDesk, AllocError> {
+    let fails = vec![in alloc; failing_read]?;
+    Ok(MemoryDesk::new(alloc, file(alloc, "m", bytes)?, fails))
+}
+
 #[test]
 fn words_and_ports_have_their_statuses(rt: HostRuntime) -> Result<(), Fail> {
     let alloc = rt.alloc();
     let text = b"Inputs: bool a;\nProof Obligations: a # ~a;\n";
     for case in &RUNS {
-        let mut desk = MemoryDesk::new(
-            alloc,
-            file(alloc, "m", text)?,
-            vec![in alloc; case.failing_read]?,
-        );
+        let mut desk = desk(alloc, text, case.failing_read)?;
         let mut out = MemorySink::new(alloc, vec![in alloc; case.failing_write]?);
         let answered = run_over(&rt, alloc, case.line, &mut desk, &mut out)?;
         assert_eq!(rt; out.bytes(), case.output);
         assert_eq!(rt; answered, case.status);
         assert_eq!(rt; desk.file("m"), Some(text.as_slice()));
+    }
+    Ok(())
+}
+
+/// Evidence of two models of one signal, whose first log says so many times more that it is true.
+fn evidence(alloc: Global, times: usize) -> Result<String, AllocError> {
+    let mut text = format!(in alloc; "hll-evidence 1\ndepth 7\nconflicts 1\n")?;
+    for name in ["a", "b"] {
+        let model = format!(in alloc; "text {name}\nlll 1\n0 one\nassume 0\nkeep 0\nend\n")?;
+        text.push_str(&model)?;
+    }
+    let count = format!(in alloc; "equal shown 3\nlog {}\n", times.saturating_add(1))?;
+    text.push_str(&count)?;
+    for _ in 0..times {
+        text.push_str("1: 0\n")?;
+    }
+    text.push_str(": 0 2\nlog 1\n: 5 7\n")?;
+    text.push_str("log 1\n: 0 2\nlog 1\n: 5 7\nlog 1\n: 0 2\nlog 1\n: 5 7\nend\n")?;
+    Ok(text)
+}
+
+const SUMMARY: &[u8] = b"proved 0 falsified 0 undecided 0\n";
+
+/// How often the first log says it, and how many reads a check makes: each gives 65,536 bytes at most, the last one none.
+const READS: [(usize, u64); 3] = [(0, 2), (14_000, 3), (27_000, 4)];
+
+#[test]
+fn each_call_of_a_check_that_fails_has_its_status(rt: HostRuntime) -> Result<(), Fail> {
+    let alloc = rt.alloc();
+    for (times, reads) in READS {
+        let text = evidence(alloc, times)?;
+        for failing in 1..reads + 2 {
+            let mut desk = desk(alloc, text.as_bytes(), failing)?;
+            let mut out = MemorySink::new(alloc, Vec::new(alloc));
+            let answered = run_over(&rt, alloc, "check m", &mut desk, &mut out)?;
+            let (status, output) = if failing <= reads {
+                (5, b"refused read m\n".as_slice())
+            } else {
+                (0, SUMMARY)
+            };
+            assert_eq!(rt; out.bytes(), output, "{failing} of {reads}");
+            assert_eq!(rt; answered, status, "{failing} of {reads}");
+        }
+        // The summary is one write.
+        for (failing, status, output) in [(1, 6, b"".as_slice()), (2, 0, SUMMARY)] {
+            let mut desk = desk(alloc, text.as_bytes(), 0)?;
+            let mut out = MemorySink::new(alloc, vec![in alloc; failing]?);
+            let answered = run_over(&rt, alloc, "check m", &mut desk, &mut out)?;
+            assert_eq!(rt; out.bytes(), output, "{failing} of {reads}");
+            assert_eq!(rt; answered, status, "{failing} of {reads}");
+        }
     }
     Ok(())
 }

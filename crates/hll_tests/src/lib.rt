@@ -2,6 +2,8 @@
 #![tactic(auto)]
 
 #[cfg(test)]
+mod altered_files;
+#[cfg(test)]
 mod answers;
 #[cfg(test)]
 mod endless;
@@ -13,6 +15,8 @@ mod fronts;
 mod layouts;
 #[cfg(test)]
 mod limits;
+#[cfg(test)]
+mod made_evidence;
 #[cfg(test)]
 mod memory;
 #[cfg(test)]

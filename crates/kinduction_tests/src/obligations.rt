@@ -1,10 +1,7 @@
 //! Obligations that were worked out by hand.
 
-ghost use Rattle.std.specs.Prelude.{◌≡◌, ◌≤◌, ℕ, true};
-ghost use Rattle.kinduction.specs.Sizes.{RoundsFit};
-
-use kinduction::{Found, Spot, decide, decide_all, is_small};
-use lll_core::Lll;
+use crate::fitting::has_fit_rounds;
+use kinduction::{Found, Spot, decide, decide_all};
 use lll_text::read_lll;
 use std::alloc::{AllocError, Global};
 use std::test::Fail;
@@ -75,15 +72,6 @@ const CASES: &[(&[u8], usize, u32, u32, Short)] = &[
     (COMMUTES, 1, 64, 1, Short::Conflicts(Spot::Step(1), 1, 1)),
 ];
 
-/// Whether a depth is in range, and a model small enough for so many rounds.
-fn is_fit(l: &Lll, depth: u32) -> bool
-    ensures some { result ≡ true → 1 ≤ depth }
-    ensures bound { result ≡ true → depth ≤ 64 }
-    ensures size { result ≡ true → (p : ℕ) → RoundsFit l.now p depth }
-{
-    1 <= depth && depth <= 64 && is_small(l, depth)
-}
-
 fn shortened(found: &Found) -> Short {
     match found {
         Found::Proved { k, bases, step: _ } => Short::Proved(*k, bases.len()),
@@ -103,7 +91,7 @@ fn obligations_are_decided_as_by_hand(rt: HostRuntime) -> Result<(), Fail> {
     for &(text, p, depth, budget, expected) in CASES {
         let l = read_lll(alloc, text)?;
         assert!(rt; p < l.obligations.len());
-        assert!(rt; is_fit(&l, depth));
+        assert!(rt; has_fit_rounds(&l, depth));
         assert!(rt; 1 <= budget && budget <= 1_000_000);
         let found = decide(alloc, &l, p, depth, budget)?;
         assert_eq!(rt; shortened(&found), expected, "{depth} {budget}");
@@ -116,7 +104,7 @@ fn a_broken_run_is_shown_by_its_inputs(rt: HostRuntime) -> Result<(), Fail> {
     let alloc = rt.alloc();
     let l = read_lll(alloc, FOLLOWS)?;
     assert!(rt; l.obligations.len() == 1);
-    assert!(rt; is_fit(&l, 64));
+    assert!(rt; has_fit_rounds(&l, 64));
     match decide(alloc, &l, 0, 64, 10)? {
         Found::Falsified { bits, bases: _ } => {
             let first = bits.as_slice().first().ok_or("no row")?;
@@ -131,7 +119,7 @@ fn a_broken_run_is_shown_by_its_inputs(rt: HostRuntime) -> Result<(), Fail> {
 fn any_number_of_workers_finds_the_same(rt: HostRuntime) -> Result<(), Fail> {
     let alloc = rt.alloc();
     let l = read_lll(alloc, COUNTER)?;
-    assert!(rt; is_fit(&l, 8));
+    assert!(rt; has_fit_rounds(&l, 8));
     let expected = [
         Short::Proved(4, 4),
         Short::Falsified(4, 3),
@@ -166,7 +154,7 @@ fn four_workers_find_what_one_finds(rt: HostRuntime) -> Result<(), Fail> {
     for obligations in [0, 3, 64] {
         let text = counter(alloc, obligations)?;
         let l = read_lll(alloc, text.as_bytes())?;
-        assert!(rt; is_fit(&l, 8));
+        assert!(rt; has_fit_rounds(&l, 8));
         let alone = decide_all(&rt, alloc, &l, 8, 1000, 1)?;
         let together = decide_all(&rt, alloc, &l, 8, 1000, 4)?;
         assert_eq!(rt; alone.len(), obligations as usize);

@@ -1,7 +1,0 @@
-use Rattle.std.proofs.Common.{take}
-use Rattle.hll_meaning.specs.Types.{ends}
-use Rattle.hll_types.proofs.Extremes.{SoFar}
-use Rattle.hll_types.proofs.judge.extreme_among.Given as goal
-
-abbrev pub invariant-loop-given : goal.invariant-loop-given
-invariant-loop-given l = SoFar l.greatest l.first (take l.given-index l.others) (ends l.range) l.number

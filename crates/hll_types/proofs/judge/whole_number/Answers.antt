@@ -1,5 +1,0 @@
-use Rattle.hll_types.proofs.FormLemmas.{whole_number_fits}
-use Rattle.hll_types.proofs.judge.whole_number.Goals as goal
-
-pub returns-in-Some : goal.returns-in-Some
-returns-in-Some c = whole_number_fits c.args.at c.args.range c.in-Some.range c.args.number c.in-Some.is
