@@ -14,7 +14,7 @@ use crate::fault::{Fault, Mistake, Refusal};
 use hll_lexer::{LineColumn, place};
 use hll_meaning::StaticKind;
 use hll_tree::HllModel;
-use hll_types::{StaticFault, check};
+use hll_types::{Checked, StaticFault, check};
 use std::alloc::Global;
 
 /// The place of a byte offset. One beyond the text has the place of its end.
@@ -31,14 +31,14 @@ fn faulty(text: &[u8], kind: StaticKind, at: u64) -> Fault
     Fault::Refused(Refusal::Misplaced(Mistake::Static(kind), place_or_end(text, at)))
 }
 
-/// Refuses a text whose model has a static fault, for the first one.
-pub fn check_rules(alloc: Global, text: &[u8], model: &HllModel) -> Result<(), Fault>
-    requires { IsSpelled text.now model.now }
-    ensures well { IfOk result (λ _. Well model.now) }
+/// A text whose model has no static fault. One that has a fault is refused for the first one.
+pub fn check_rules(alloc: Global, text: &[u8], model: HllModel) -> Result<Checked, Fault>
+    requires { IsSpelled text.now model }
+    ensures checked { IfOk result (λ checked. (checked ≡ model) × Well model) }
     ensures refused { (r : TheRefusal) → result ≡ Err (fault.Refused r) → IsTextRefusal text.now r }
 {
     match check(alloc, model) {
-        Ok(()) => Ok(()),
+        Ok(checked) => Ok(checked),
         Err(StaticFault::Fault { kind, at }) => Err(faulty(text, kind, at)),
         Err(StaticFault::Memory) => Err(Fault::Memory),
     }

@@ -118,7 +118,7 @@ declarators_agree before other further h input ty taken total (d ∷ ds) kind no
     let there = declarators_agree before other further h input ty (d.name.text ∷ taken) (total + cells (declared_kind before ty d)) ds kind (second_empty _ _ q.1) in
     λ i. (d.name.text, variable input (here i)) ∷ there i
 
-item_agrees : (types all : List TypeItem) (further : List (List ℕ)) (p : Pass1) (other : Names) (it : Item) → AreAlike p.names other → item_faults (declaring p.names further) p it ≡ [] →
+pub item_agrees : (types all : List TypeItem) (further : List (List ℕ)) (p : Pass1) (other : Names) (it : Item) → AreAlike p.names other → item_faults (declaring p.names further) p it ≡ [] →
     AgreeButElements (declared_by types p.names it) (declared_by all other it)
 item_agrees types all further p other (a_constant k) h none =
     let q = first_empty (judged k.value (declaring p.names further)).faults _ (second_empty (fresh_name (taken_by p.names) k.name) _ none) in

@@ -49,7 +49,7 @@ all_later [] = tt
 all_later (n ∷ ns) = (refl, all_later ns)
 
 -- what is no more than there stands before
-known_before : (before : Names) (further : List (List ℕ)) (n : List ℕ) (t : Thing) → (t ≡ later → ⊥) → under n (before ++ further_on further) ≡ Some t → under n before ≡ Some t
+pub known_before : (before : Names) (further : List (List ℕ)) (n : List ℕ) (t : Thing) → (t ≡ later → ⊥) → under n (before ++ further_on further) ≡ Some t → under n before ≡ Some t
 known_before before further n t now is = either (under_either before (further_on further) n t is)
   where
     either : (under n before ≡ Some t) ⊎ (under n (further_on further) ≡ Some t) → under n before ≡ Some t

@@ -5,7 +5,7 @@ use Rattle.intervals.specs.Rules.{negation, absolute, smaller, greater}
 use Rattle.intervals.specs.declared.interval.Interval.{Interval}
 use Rattle.hll_tree.specs.declared.tree.Branch.{Branch, fold_out-Branch}
 use Rattle.hll_tree.specs.declared.tree.Cmp.{Cmp}
-use Rattle.hll_tree.specs.declared.tree.Domain.{Domain, Bounds, Bool as Truths, Named, fold-Domain, fold_out-Domain}
+use Rattle.hll_tree.specs.declared.tree.Domain.{Domain, Bounds, Bool as Truths, Named, fold_out-Domain}
 use Rattle.hll_tree.specs.declared.tree.Domain.TheVariants.{outs-Bounds, outs-Bool, outs-Named}
 use Rattle.hll_tree.specs.declared.tree.Expr.{Expr, fold_out-Expr}
 use Rattle.hll_tree.specs.declared.tree.Form.{Form, Number, Truth, Path, Chain, Compare, Minus, Not, Choice, Group, Quant as Quantified, Pre, Least, Greatest, Size, Starting, Within, fold-Form, fold_out-Form}
@@ -18,15 +18,12 @@ use Rattle.hll_tree.specs.declared.tree.Reach.TheVariants.{outs-At, outs-Field}
 use Rattle.hll_meaning.specs.Kinds.{truth, whole}
 use Rattle.hll_meaning.specs.Names.{under}
 use Rattle.hll_meaning.specs.Values.{of_number, of_truth, number, is_true, compared, least, greatest}
+pub use Rattle.hll_meaning.specs.Judging.{domain_said}
 use Rattle.hll_meaning.specs.Judging.{Context, In, Judged, Ranged, Reached, by_index, by_name, Linked, for_constant, given_whole, wide_at, no_constant, wants_truth, wants_whole, bound_path, chain_of, comparison_faults, made_of, made_of_all, choice_of, all_in, group_at, quantified_at, pre_alone, pre_with, bounds_of, bound_domain, domain_judged, form_judged, reach_judged, judged}
 
 -- what is said of a form, as an expression has it
 judged_of_form : Form → ℕ → In Judged
 judged_of_form = fold-Form (In Ranged) (ℕ → In Judged) Reached (In Judged × In Judged) (In Judged) Linked domain_judged form_judged reach_judged (λ b. (b.when, b.gives)) (λ e. e.form e.at) (λ link. record { op = link.op; at = link.at; with = link.with })
-
--- what is said of a domain
-pub domain_said : Domain → In Ranged
-domain_said = fold-Domain (In Ranged) (ℕ → In Judged) Reached (In Judged × In Judged) (In Judged) Linked domain_judged form_judged reach_judged (λ b. (b.when, b.gives)) (λ e. e.form e.at) (λ link. record { op = link.op; at = link.at; with = link.with })
 
 -- what is said of a step of a path
 pub reach_said : Reach → Reached

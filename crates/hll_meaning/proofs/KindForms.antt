@@ -1,5 +1,5 @@
 -- The kind of a type, form by form.
-use Rattle.std.proofs.Common.{◌≡◌, ℕ, List, [], ◌∷◌, map, refl, ap, ◌∙◌}
+use Rattle.std.proofs.Common.{◌≡◌, ℕ, List, map, refl, ◌∙◌}
 use Rattle.intervals.specs.declared.interval.Interval.{Interval}
 use Rattle.hll_meaning.specs.declared.ty.FieldTy.{FieldTy, fold_out-FieldTy}
 use Rattle.hll_meaning.specs.declared.ty.Ty.{Ty, Bool, Int, Elem, Array, Struct, fold_out-Ty}

@@ -16,115 +16,115 @@ use Rattle.hll_meaning.specs.Safety.{Looked, LookedStep, LookedLink, LookedDomai
 
 -- ---- what is looked at, and worths, of each kind of part
 
-domain_seen : Domain → LookedDomain
+pub domain_seen : Domain → LookedDomain
 domain_seen = fold-Domain LookedDomain (ℕ → Looked) LookedStep (Looked × Looked) Looked LookedLink domain_looked form_looked reach_looked (λ b. (b.when, b.gives)) (λ e. e.form e.at) (λ link. record { op = link.op; with = link.with })
 
-form_seen : Form → ℕ → Looked
+pub form_seen : Form → ℕ → Looked
 form_seen = fold-Form LookedDomain (ℕ → Looked) LookedStep (Looked × Looked) Looked LookedLink domain_looked form_looked reach_looked (λ b. (b.when, b.gives)) (λ e. e.form e.at) (λ link. record { op = link.op; with = link.with })
 
-reach_seen : Reach → LookedStep
+pub reach_seen : Reach → LookedStep
 reach_seen = fold-Reach LookedDomain (ℕ → Looked) LookedStep (Looked × Looked) Looked LookedLink domain_looked form_looked reach_looked (λ b. (b.when, b.gives)) (λ e. e.form e.at) (λ link. record { op = link.op; with = link.with })
 
-branch_seen : Branch → Looked × Looked
+pub branch_seen : Branch → Looked × Looked
 branch_seen = fold-Branch LookedDomain (ℕ → Looked) LookedStep (Looked × Looked) Looked LookedLink domain_looked form_looked reach_looked (λ b. (b.when, b.gives)) (λ e. e.form e.at) (λ link. record { op = link.op; with = link.with })
 
-link_seen : Link → LookedLink
+pub link_seen : Link → LookedLink
 link_seen = fold-Link LookedDomain (ℕ → Looked) LookedStep (Looked × Looked) Looked LookedLink domain_looked form_looked reach_looked (λ b. (b.when, b.gives)) (λ e. e.form e.at) (λ link. record { op = link.op; with = link.with })
 
-domain_value : Domain → In Ends
+pub domain_value : Domain → In Ends
 domain_value = fold-Domain (In Ends) (In Value) (In Step) (In Value × In Value) (In Value) (Op × In Value) domain_range form_worth reach_step (λ b. (b.when, b.gives)) (λ e. e.form) (λ link. (link.op, link.with))
 
-form_value : Form → In Value
+pub form_value : Form → In Value
 form_value = fold-Form (In Ends) (In Value) (In Step) (In Value × In Value) (In Value) (Op × In Value) domain_range form_worth reach_step (λ b. (b.when, b.gives)) (λ e. e.form) (λ link. (link.op, link.with))
 
-reach_value : Reach → In Step
+pub reach_value : Reach → In Step
 reach_value = fold-Reach (In Ends) (In Value) (In Step) (In Value × In Value) (In Value) (Op × In Value) domain_range form_worth reach_step (λ b. (b.when, b.gives)) (λ e. e.form) (λ link. (link.op, link.with))
 
-branch_value : Branch → In Value × In Value
+pub branch_value : Branch → In Value × In Value
 branch_value = fold-Branch (In Ends) (In Value) (In Step) (In Value × In Value) (In Value) (Op × In Value) domain_range form_worth reach_step (λ b. (b.when, b.gives)) (λ e. e.form) (λ link. (link.op, link.with))
 
-link_value : Link → Op × In Value
+pub link_value : Link → Op × In Value
 link_value = fold-Link (In Ends) (In Value) (In Step) (In Value × In Value) (In Value) (Op × In Value) domain_range form_worth reach_step (λ b. (b.when, b.gives)) (λ e. e.form) (λ link. (link.op, link.with))
 
 -- a layer of forms or domains with what is looked at of its parts, and with their worths
-abbrev Layer : Type 0
+abbrev pub Layer : Type 0
 Layer = Form-F Domain Form Reach Branch Expr Link
 
-abbrev parts_seen : Layer → Form-F LookedDomain (ℕ → Looked) LookedStep (Looked × Looked) Looked LookedLink
+abbrev pub parts_seen : Layer → Form-F LookedDomain (ℕ → Looked) LookedStep (Looked × Looked) Looked LookedLink
 parts_seen = map-Form Domain Form Reach Branch Expr Link LookedDomain (ℕ → Looked) LookedStep (Looked × Looked) Looked LookedLink domain_seen form_seen reach_seen branch_seen looked link_seen
 
-abbrev part_values : Layer → Form-F (In Ends) (In Value) (In Step) (In Value × In Value) (In Value) (Op × In Value)
+abbrev pub part_values : Layer → Form-F (In Ends) (In Value) (In Step) (In Value × In Value) (In Value) (Op × In Value)
 part_values = map-Form Domain Form Reach Branch Expr Link (In Ends) (In Value) (In Step) (In Value × In Value) (In Value) (Op × In Value) domain_value form_value reach_value branch_value worth link_value
 
-seen_form : (y : Layer) → form_seen (roll-Form y) ≡ form_looked (parts_seen y)
+pub seen_form : (y : Layer) → form_seen (roll-Form y) ≡ form_looked (parts_seen y)
 unfolding looked domain_seen form_seen reach_seen branch_seen link_seen
 seen_form y = fold-roll-Form _ _ _ _ _ _ _ _ _ _ _ _ y
 
-value_form : (y : Layer) → form_value (roll-Form y) ≡ form_worth (part_values y)
+pub value_form : (y : Layer) → form_value (roll-Form y) ≡ form_worth (part_values y)
 unfolding worth domain_value form_value reach_value branch_value link_value
 value_form y = fold-roll-Form _ _ _ _ _ _ _ _ _ _ _ _ y
 
-seen_bounds : (a b : Expr) → domain_seen (roll-Domain (Domain-F.Bounds a b)) ≡ domain_looked (Domain-F.Bounds (looked a) (looked b))
+pub seen_bounds : (a b : Expr) → domain_seen (roll-Domain (Domain-F.Bounds a b)) ≡ domain_looked (Domain-F.Bounds (looked a) (looked b))
 unfolding looked domain_seen form_seen reach_seen branch_seen link_seen
 seen_bounds a b = fold-roll-Domain _ _ _ _ _ _ _ _ _ _ _ _ (Domain-F.Bounds a b)
 
-value_bounds : (a b : Expr) → domain_value (roll-Domain (Domain-F.Bounds a b)) ≡ domain_range (Domain-F.Bounds (worth a) (worth b))
+pub value_bounds : (a b : Expr) → domain_value (roll-Domain (Domain-F.Bounds a b)) ≡ domain_range (Domain-F.Bounds (worth a) (worth b))
 unfolding worth domain_value form_value reach_value branch_value link_value
 value_bounds a b = fold-roll-Domain _ _ _ _ _ _ _ _ _ _ _ _ (Domain-F.Bounds a b)
 
-seen_truths : domain_seen (roll-Domain Domain-F.Bool) ≡ domain_looked Domain-F.Bool
+pub seen_truths : domain_seen (roll-Domain Domain-F.Bool) ≡ domain_looked Domain-F.Bool
 unfolding domain_seen
 seen_truths = fold-roll-Domain _ _ _ _ _ _ _ _ _ _ _ _ Domain-F.Bool
 
-value_truths : domain_value (roll-Domain Domain-F.Bool) ≡ domain_range Domain-F.Bool
+pub value_truths : domain_value (roll-Domain Domain-F.Bool) ≡ domain_range Domain-F.Bool
 unfolding domain_value
 value_truths = fold-roll-Domain _ _ _ _ _ _ _ _ _ _ _ _ Domain-F.Bool
 
-seen_named : (n : Name) → domain_seen (roll-Domain (Domain-F.Named n)) ≡ domain_looked (Domain-F.Named n)
+pub seen_named : (n : Name) → domain_seen (roll-Domain (Domain-F.Named n)) ≡ domain_looked (Domain-F.Named n)
 unfolding domain_seen
 seen_named n = fold-roll-Domain _ _ _ _ _ _ _ _ _ _ _ _ (Domain-F.Named n)
 
-value_named : (n : Name) → domain_value (roll-Domain (Domain-F.Named n)) ≡ domain_range (Domain-F.Named n)
+pub value_named : (n : Name) → domain_value (roll-Domain (Domain-F.Named n)) ≡ domain_range (Domain-F.Named n)
 unfolding domain_value
 value_named n = fold-roll-Domain _ _ _ _ _ _ _ _ _ _ _ _ (Domain-F.Named n)
 
-seen_at : (e : Expr) → reach_seen (roll-Reach (Reach-F.At e)) ≡ reach_looked (Reach-F.At (looked e))
+pub seen_at : (e : Expr) → reach_seen (roll-Reach (Reach-F.At e)) ≡ reach_looked (Reach-F.At (looked e))
 unfolding looked reach_seen
 seen_at e = fold-roll-Reach _ _ _ _ _ _ _ _ _ _ _ _ (Reach-F.At e)
 
-value_at : (e : Expr) → reach_value (roll-Reach (Reach-F.At e)) ≡ reach_step (Reach-F.At (worth e))
+pub value_at : (e : Expr) → reach_value (roll-Reach (Reach-F.At e)) ≡ reach_step (Reach-F.At (worth e))
 unfolding worth reach_value
 value_at e = fold-roll-Reach _ _ _ _ _ _ _ _ _ _ _ _ (Reach-F.At e)
 
-seen_field : (n : Name) → reach_seen (roll-Reach (Reach-F.Field n)) ≡ reach_looked (Reach-F.Field n)
+pub seen_field : (n : Name) → reach_seen (roll-Reach (Reach-F.Field n)) ≡ reach_looked (Reach-F.Field n)
 unfolding reach_seen
 seen_field n = fold-roll-Reach _ _ _ _ _ _ _ _ _ _ _ _ (Reach-F.Field n)
 
-value_field : (n : Name) → reach_value (roll-Reach (Reach-F.Field n)) ≡ reach_step (Reach-F.Field n)
+pub value_field : (n : Name) → reach_value (roll-Reach (Reach-F.Field n)) ≡ reach_step (Reach-F.Field n)
 unfolding reach_value
 value_field n = fold-roll-Reach _ _ _ _ _ _ _ _ _ _ _ _ (Reach-F.Field n)
 
-seen_branch : (when gives : Expr) → branch_seen (roll-Branch (record { when = when; gives = gives })) ≡ (looked when, looked gives)
+pub seen_branch : (when gives : Expr) → branch_seen (roll-Branch (record { when = when; gives = gives })) ≡ (looked when, looked gives)
 unfolding looked branch_seen
 seen_branch when gives = fold-roll-Branch _ _ _ _ _ _ _ _ _ _ _ _ (record { when = when; gives = gives })
 
-value_branch : (when gives : Expr) → branch_value (roll-Branch (record { when = when; gives = gives })) ≡ (worth when, worth gives)
+pub value_branch : (when gives : Expr) → branch_value (roll-Branch (record { when = when; gives = gives })) ≡ (worth when, worth gives)
 unfolding worth branch_value
 value_branch when gives = fold-roll-Branch _ _ _ _ _ _ _ _ _ _ _ _ (record { when = when; gives = gives })
 
-seen_expr : (at : ℕ) (f : Form) → looked (roll-Expr (record { at = at; form = f })) ≡ form_seen f at
+pub seen_expr : (at : ℕ) (f : Form) → looked (roll-Expr (record { at = at; form = f })) ≡ form_seen f at
 unfolding looked form_seen
 seen_expr at f = fold-roll-Expr _ _ _ _ _ _ _ _ _ _ _ _ (record { at = at; form = f })
 
-value_expr : (at : ℕ) (f : Form) → worth (roll-Expr (record { at = at; form = f })) ≡ form_value f
+pub value_expr : (at : ℕ) (f : Form) → worth (roll-Expr (record { at = at; form = f })) ≡ form_value f
 unfolding worth form_value
 value_expr at f = fold-roll-Expr _ _ _ _ _ _ _ _ _ _ _ _ (record { at = at; form = f })
 
-seen_link : (o : Op) (at : ℕ) (with : Expr) → link_seen (roll-Link (record { op = o; at = at; with = with })) ≡ record { op = o; with = looked with }
+pub seen_link : (o : Op) (at : ℕ) (with : Expr) → link_seen (roll-Link (record { op = o; at = at; with = with })) ≡ record { op = o; with = looked with }
 unfolding looked link_seen
 seen_link o at with = fold-roll-Link _ _ _ _ _ _ _ _ _ _ _ _ (record { op = o; at = at; with = with })
 
-value_link : (o : Op) (at : ℕ) (with : Expr) → link_value (roll-Link (record { op = o; at = at; with = with })) ≡ (o, worth with)
+pub value_link : (o : Op) (at : ℕ) (with : Expr) → link_value (roll-Link (record { op = o; at = at; with = with })) ≡ (o, worth with)
 unfolding worth link_value
 value_link o at with = fold-roll-Link _ _ _ _ _ _ _ _ _ _ _ _ (record { op = o; at = at; with = with })
 

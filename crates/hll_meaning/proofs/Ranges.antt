@@ -7,19 +7,15 @@ use Rattle.intervals.specs.Ends.{Ends}
 use Rattle.intervals.specs.Numbers.{size}
 use Rattle.intervals.specs.Rules.{negation, absolute}
 use Rattle.intervals.proofs.Soundness.{negation_sound, absolute_sound}
-use Rattle.hll_tree.specs.declared.tree.Branch.{Branch, roll-Branch}
+use Rattle.hll_tree.specs.declared.tree.Branch.{Branch}
 use Rattle.hll_tree.specs.declared.tree.Cmp.{Cmp}
-use Rattle.hll_tree.specs.declared.tree.Domain.{Domain, Domain-F, Bounds, Bool as Truths, Named, roll-Domain}
-use Rattle.hll_tree.specs.declared.tree.Domain.TheVariants.{rolls-Bounds, rolls-Bool, rolls-Named}
-use Rattle.hll_tree.specs.declared.tree.Domain.TheFolds.{map-Domain, map-Form, map-Reach}
-use Rattle.hll_tree.specs.declared.tree.Expr.{Expr, roll-Expr, ind-Expr}
-use Rattle.hll_tree.specs.declared.tree.Form.{Form, Form-F, Number, Truth, Path, Chain, Compare, Minus, Not, Choice, Group, Quant as Quantified, Pre, Least, Greatest, Size, Starting, Within, roll-Form}
-use Rattle.hll_tree.specs.declared.tree.Form.TheVariants.{rolls-Number, rolls-Truth, rolls-Path, rolls-Chain, rolls-Compare, rolls-Minus, rolls-Not, rolls-Choice, rolls-Group, rolls-Quant, rolls-Pre, rolls-Least, rolls-Greatest, rolls-Size, rolls-Within, rolls-Starting}
-use Rattle.hll_tree.specs.declared.tree.Link.{Link, roll-Link}
+use Rattle.hll_tree.specs.declared.tree.Domain.{Domain, Bounds, Bool as Truths, Named}
+use Rattle.hll_tree.specs.declared.tree.Expr.{Expr}
+use Rattle.hll_tree.specs.declared.tree.Form.{Number, Truth, Path, Chain, Compare, Minus, Not, Choice, Group, Quant as Quantified, Pre, Least, Greatest, Size, Starting, Within}
+use Rattle.hll_tree.specs.declared.tree.Link.{Link}
 use Rattle.hll_tree.specs.declared.tree.Name.{Name}
 use Rattle.hll_tree.specs.declared.tree.Quant.{Quant}
-use Rattle.hll_tree.specs.declared.tree.Reach.{Reach, Reach-F, At, Field, roll-Reach}
-use Rattle.hll_tree.specs.declared.tree.Reach.TheVariants.{rolls-At, rolls-Field}
+use Rattle.hll_tree.specs.declared.tree.Reach.{Reach, At, Field}
 use Rattle.hll_meaning.specs.Kinds.{Kind, truth, whole, element, array, struct, Value, Step, ranges, truths}
 use Rattle.hll_meaning.specs.Names.{Thing, constant, type_of, code_in, variable, later, under}
 use Rattle.hll_meaning.specs.Values.{Scene, In as InScene, number, least, greatest, named_domain, earlier, worth}
@@ -35,7 +31,8 @@ use Rattle.hll_meaning.proofs.Choices.{AllGive, choice_lies, group_lies, memory_
 use Rattle.hll_meaning.proofs.Quantifiers.{quantified_lies}
 use Rattle.hll_meaning.proofs.Scenes.{HasAll, has_for_constant, has_inside, has_earlier}
 use Rattle.hll_meaning.proofs.Paths.{IsStep, AreSteps, path_lies}
-use Rattle.hll_meaning.proofs.Constants.{made, each_has, is_said}
+use Rattle.hll_meaning.proofs.FormInduction.{HoldsByForm, holds_by_form}
+use Rattle.hll_meaning.proofs.Constants.{is_said}
 
 -- in each scene the value is of the kind that is said
 abbrev pub IsSound : Expr → Type 0
@@ -114,9 +111,9 @@ links_sound : (ls : List Link) → AllByRecursion (λ l. IsSound l.with) ls → 
 links_sound [] all c s h = tt
 links_sound (l ∷ ls) all c s h = (refl, all.0 c s h, links_sound ls all.1 c s h)
 
-branches_sound : (bs : List Branch) → AllByRecursion (λ b. IsSound b.gives) bs → (c : Context) (s : Scene) → HasAll c s → AllGive s (all_in c (map branch_said bs)) (map (λ b. (worth b.when, worth b.gives)) bs)
+branches_sound : (bs : List Branch) → AllByRecursion (λ b. IsSound b.when × IsSound b.gives) bs → (c : Context) (s : Scene) → HasAll c s → AllGive s (all_in c (map branch_said bs)) (map (λ b. (worth b.when, worth b.gives)) bs)
 branches_sound [] all c s h = tt
-branches_sound (b ∷ bs) all c s h = (all.0 c s h, branches_sound bs all.1 c s h)
+branches_sound (b ∷ bs) all c s h = (all.0.1 c s h, branches_sound bs all.1 c s h)
 
 steps_sound : (rs : List Reach) → AllByRecursion ReachIsSound rs → (s : Scene) → AreSteps (map reach_said rs) (map (λ r. r s) (map reach_worth rs))
 steps_sound [] all s = tt
@@ -153,7 +150,7 @@ sound_minus e inner is f c s h = by_forms _ _ _ _ (judged-minus e inner is c) (w
 sound_not : (e inner : Expr) → e.form ≡ Not inner → IsSound e
 sound_not e inner is c s h = by_forms _ _ _ _ (judged-not e inner is c) (worth-not e inner is s) (λ none. truth_of _)
 
-sound_choice : (e : Expr) (bs : List Branch) (otherwise : Expr) → e.form ≡ Choice bs otherwise → AllByRecursion (λ b. IsSound b.gives) bs → IsSound otherwise → IsSound e
+sound_choice : (e : Expr) (bs : List Branch) (otherwise : Expr) → e.form ≡ Choice bs otherwise → AllByRecursion (λ b. IsSound b.when × IsSound b.gives) bs → IsSound otherwise → IsSound e
 sound_choice e bs otherwise is all f c s h =
     by_forms _ _ _ _ (judged-choice e bs otherwise is c) (worth-choice e bs otherwise is s)
     (choice_lies s e.at (all_in c (map branch_said bs)) (map (λ b. (worth b.when, worth b.gives)) bs) (judged otherwise c) (worth otherwise) (branches_sound bs all c s h) (f c s h))
@@ -207,60 +204,31 @@ sound_within e inner i is c s h = by_forms _ _ _ _ (judged-within e inner i is c
 
 -- ---- any depth
 
-abbrev D : Type 0
-D = (d : Domain) × DomainIsSound d
-
-abbrev F : Type 0
-F = (f : Form) × ((at : ℕ) → IsSound (roll-Expr (record { at = at; form = f })))
-
-abbrev R : Type 0
-R = (r : Reach) × ReachIsSound r
-
-abbrev B : Type 0
-B = (b : Branch) × IsSound b.gives
-
-abbrev E : Type 0
-E = (e : Expr) × IsSound e
-
-abbrev L : Type 0
-L = (l : Link) × IsSound l.with
-
-abbrev forms : Form-F D F R B E L → Form-F Domain Form Reach Branch Expr Link
-forms = map-Form D F R B E L Domain Form Reach Branch Expr Link (λ z. z.0) (λ z. z.0) (λ z. z.0) (λ z. z.0) (λ z. z.0) (λ z. z.0)
-
-form_step : (y : Form-F D F R B E L) (at : ℕ) → IsSound (made (forms y) at)
-form_step (Form-F.Number n) at = sound_number (made (Form-F.Number n) at) n (rolls-Number n)
-form_step (Form-F.Truth b) at = sound_truth (made (Form-F.Truth b) at) b (rolls-Truth b)
-form_step (Form-F.Path n rs) at = sound_path (made (forms (Form-F.Path n rs)) at) n (map (λ z. z.0) rs) (rolls-Path n (map (λ z. z.0) rs)) (each_has ReachIsSound rs)
-form_step (Form-F.Chain first ls) at = sound_chain (made (forms (Form-F.Chain first ls)) at) first.0 (map (λ z. z.0) ls) (rolls-Chain first.0 (map (λ z. z.0) ls)) first.1 (each_has (λ l. IsSound l.with) ls)
-form_step (Form-F.Compare o a b) at = sound_compare (made (forms (Form-F.Compare o a b)) at) o a.0 b.0 (rolls-Compare o a.0 b.0)
-form_step (Form-F.Minus x) at = sound_minus (made (forms (Form-F.Minus x)) at) x.0 (rolls-Minus x.0) x.1
-form_step (Form-F.Not x) at = sound_not (made (forms (Form-F.Not x)) at) x.0 (rolls-Not x.0)
-form_step (Form-F.Choice bs x) at = sound_choice (made (forms (Form-F.Choice bs x)) at) (map (λ z. z.0) bs) x.0 (rolls-Choice (map (λ z. z.0) bs) x.0) (each_has (λ b. IsSound b.gives) bs) x.1
-form_step (Form-F.Group xs) at = sound_group (made (forms (Form-F.Group xs)) at) (map (λ z. z.0) xs) (rolls-Group (map (λ z. z.0) xs)) (each_has IsSound xs)
-form_step (Form-F.Quant q n d x) at = sound_quantified (made (forms (Form-F.Quant q n d x)) at) q n d.0 x.0 (rolls-Quant q n d.0 x.0) d.1 x.1
-form_step (Form-F.Pre x None) at = sound_pre_alone (made (forms (Form-F.Pre x None)) at) x.0 (rolls-Pre x.0 None)
-form_step (Form-F.Pre x (Some first)) at = sound_pre_with (made (forms (Form-F.Pre x (Some first))) at) x.0 first.0 (rolls-Pre x.0 (Some first.0)) x.1 first.1
-form_step (Form-F.Least xs) at = sound_least (made (forms (Form-F.Least xs)) at) (map (λ z. z.0) xs) (rolls-Least (map (λ z. z.0) xs)) (each_has IsSound xs)
-form_step (Form-F.Greatest xs) at = sound_greatest (made (forms (Form-F.Greatest xs)) at) (map (λ z. z.0) xs) (rolls-Greatest (map (λ z. z.0) xs)) (each_has IsSound xs)
-form_step (Form-F.Size x) at = sound_size (made (forms (Form-F.Size x)) at) x.0 (rolls-Size x.0) x.1
-form_step Form-F.Starting at = sound_starting (made Form-F.Starting at) rolls-Starting
-form_step (Form-F.Within x i) at = sound_within (made (forms (Form-F.Within x i)) at) x.0 i (rolls-Within x.0 i)
-
-reach_step : (y : Reach-F D F R B E L) → ReachIsSound (roll-Reach (map-Reach D F R B E L Domain Form Reach Branch Expr Link (λ z. z.0) (λ z. z.0) (λ z. z.0) (λ z. z.0) (λ z. z.0) (λ z. z.0) y))
-reach_step (Reach-F.At e) = subst ReachIsSound (sym (rolls-At e.0)) (sound_at e.0)
-reach_step (Reach-F.Field n) = subst ReachIsSound (sym (rolls-Field n)) (sound_field n)
-
-domain_step : (y : Domain-F D F R B E L) → DomainIsSound (roll-Domain (map-Domain D F R B E L Domain Form Reach Branch Expr Link (λ z. z.0) (λ z. z.0) (λ z. z.0) (λ z. z.0) (λ z. z.0) (λ z. z.0) y))
-domain_step (Domain-F.Bounds a b) = subst DomainIsSound (sym (rolls-Bounds a.0 b.0)) (sound_bounds a.0 b.0)
-domain_step Domain-F.Bool = subst DomainIsSound (sym rolls-Bool) sound_truths
-domain_step (Domain-F.Named n) = subst DomainIsSound (sym (rolls-Named n)) (sound_named n)
+by_form : HoldsByForm IsSound DomainIsSound ReachIsSound
+by_form = record {
+  number = sound_number;
+  truth = sound_truth;
+  path = sound_path;
+  chain = sound_chain;
+  compare = λ e o a b is f g. sound_compare e o a b is;
+  minus = sound_minus;
+  negated = λ e inner is f. sound_not e inner is;
+  choice = sound_choice;
+  group = sound_group;
+  quantified = sound_quantified;
+  pre_alone = λ e body is f. sound_pre_alone e body is;
+  pre_with = sound_pre_with;
+  least = sound_least;
+  greatest = sound_greatest;
+  size = sound_size;
+  starting = sound_starting;
+  within = λ e inner i is f. sound_within e inner i is;
+  bounds = λ a b f g. sound_bounds a b;
+  truths = sound_truths;
+  named = sound_named;
+  index = λ e f. sound_at e;
+  field = sound_field;
+}
 
 pub is_sound : (e : Expr) → IsSound e
-is_sound = ind-Expr DomainIsSound (λ f. (at : ℕ) → IsSound (roll-Expr (record { at = at; form = f }))) ReachIsSound (λ b. IsSound b.gives) IsSound (λ l. IsSound l.with)
-    (λ x y is. subst (λ z. DomainIsSound (roll-Domain z)) is (domain_step y))
-    (λ x y is. subst (λ z. (at : ℕ) → IsSound (roll-Expr (record { at = at; form = roll-Form z }))) is (form_step y))
-    (λ x y is. subst (λ z. ReachIsSound (roll-Reach z)) is (reach_step y))
-    (λ x y is. subst (λ z. IsSound (roll-Branch z).gives) is y.gives.1)
-    (λ x y is. subst (λ z. IsSound (roll-Expr z)) is (y.form.1 y.at))
-    (λ x y is. subst (λ z. IsSound (roll-Link z).with) is y.with.1)
+is_sound = holds_by_form IsSound DomainIsSound ReachIsSound by_form

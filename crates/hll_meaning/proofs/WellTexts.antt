@@ -74,9 +74,9 @@ fitting all d (Some later) is none = absurd (cc none)
 -- ---- pass 2
 
 -- what is known of what pass 2 has walked without a fault
-abbrev IsFaultless : Names → Asked → Type 0
-IsFaultless all (defines d) = IsFitting all d
-IsFaultless all (demands e) = IsTruth all e
+abbrev pub IsAskedFaultless : Names → Asked → Type 0
+IsAskedFaultless all (defines d) = IsFitting all d
+IsAskedFaultless all (demands e) = IsTruth all e
 
 asked_before : (all : Names) (p : Pass2) (q : Asked) → (pass2_item all p q).faults ≡ [] → p.faults ≡ []
 asked_before all p (defines d) none = first_empty p.faults _ none
@@ -86,14 +86,14 @@ faults_before : (all : Names) (qs : List Asked) (p : Pass2) → (fold (pass2_ite
 faults_before all [] p none = none
 faults_before all (q ∷ qs) p none = asked_before all p q (faults_before all qs (pass2_item all p q) none)
 
-asked_faultless : (all : Names) (p : Pass2) (q : Asked) → (pass2_item all p q).faults ≡ [] → IsFaultless all q
+asked_faultless : (all : Names) (p : Pass2) (q : Asked) → (pass2_item all p q).faults ≡ [] → IsAskedFaultless all q
 asked_faultless all p (defines d) none = fitting all d (under d.name.text all) refl (second_empty _ (defined_faults all d (under d.name.text all)) (second_empty p.faults (definition_faults all p.defs d) none))
 asked_faultless all p (demands e) none =
     let j = judged e (asking all []) in
     let q = empty_parts j.faults _ (second_empty p.faults _ none) in
     record { faultless = q.0; kind = a_truth j.kind (must_be (is_truth j.kind) _ j.at q.1) }
 
-all_asked : (all : Names) (qs : List Asked) (p : Pass2) → (fold (pass2_item all) p qs).faults ≡ [] → AllByRecursion (IsFaultless all) qs
+all_asked : (all : Names) (qs : List Asked) (p : Pass2) → (fold (pass2_item all) p qs).faults ≡ [] → AllByRecursion (IsAskedFaultless all) qs
 all_asked all [] p none = tt
 all_asked all (q ∷ qs) p none = (asked_faultless all p q (faults_before all qs (pass2_item all p q) none), all_asked all qs (pass2_item all p q) none)
 
@@ -115,46 +115,46 @@ of_sections P Q take each (s ∷ ss) h =
     let r = front Q (asked_in s) (flat_map asked_in ss) h in
     all_append P (take s) (flat_map take ss) (each s r.0) (of_sections P Q take each ss r.1)
 
-definitions_faultless : (all : Names) (s : Section) → AllByRecursion (IsFaultless all) (asked_in s) → AllByRecursion (IsFitting all) (definitions_in s)
+definitions_faultless : (all : Names) (s : Section) → AllByRecursion (IsAskedFaultless all) (asked_in s) → AllByRecursion (IsFitting all) (definitions_in s)
 definitions_faultless all (section.Constants items) h = tt
 definitions_faultless all (section.Types items) h = tt
 definitions_faultless all (section.Inputs decls) h = tt
 definitions_faultless all (section.Declarations decls) h = tt
-definitions_faultless all (section.Definitions defs) h = of_map (IsFaultless all) defines defs h
+definitions_faultless all (section.Definitions defs) h = of_map (IsAskedFaultless all) defines defs h
 definitions_faultless all (section.Constraints es) h = tt
 definitions_faultless all (section.Obligations es) h = tt
 
-constraints_faultless : (all : Names) (s : Section) → AllByRecursion (IsFaultless all) (asked_in s) → AllByRecursion (IsTruth all) (constraints_in s)
+constraints_faultless : (all : Names) (s : Section) → AllByRecursion (IsAskedFaultless all) (asked_in s) → AllByRecursion (IsTruth all) (constraints_in s)
 constraints_faultless all (section.Constants items) h = tt
 constraints_faultless all (section.Types items) h = tt
 constraints_faultless all (section.Inputs decls) h = tt
 constraints_faultless all (section.Declarations decls) h = tt
 constraints_faultless all (section.Definitions defs) h = tt
-constraints_faultless all (section.Constraints es) h = of_map (IsFaultless all) demands es h
+constraints_faultless all (section.Constraints es) h = of_map (IsAskedFaultless all) demands es h
 constraints_faultless all (section.Obligations es) h = tt
 
-obligations_faultless : (all : Names) (s : Section) → AllByRecursion (IsFaultless all) (asked_in s) → AllByRecursion (IsTruth all) (obligations_in s)
+obligations_faultless : (all : Names) (s : Section) → AllByRecursion (IsAskedFaultless all) (asked_in s) → AllByRecursion (IsTruth all) (obligations_in s)
 obligations_faultless all (section.Constants items) h = tt
 obligations_faultless all (section.Types items) h = tt
 obligations_faultless all (section.Inputs decls) h = tt
 obligations_faultless all (section.Declarations decls) h = tt
 obligations_faultless all (section.Definitions defs) h = tt
 obligations_faultless all (section.Constraints es) h = tt
-obligations_faultless all (section.Obligations es) h = of_map (IsFaultless all) demands es h
+obligations_faultless all (section.Obligations es) h = of_map (IsAskedFaultless all) demands es h
 
 -- ---- texts
 
-text_asked : (m : HllModel) → Well m → AllByRecursion (IsFaultless (names m)) (flat_map asked_in m.sections)
+pub text_asked : (m : HllModel) → Well m → AllByRecursion (IsAskedFaultless (names m)) (flat_map asked_in m.sections)
 text_asked m well = all_asked (names m) (flat_map asked_in m.sections) (record { defs = []; faults = [] }) (first_empty (pass2_faults m) (pass3_faults m) (second_empty (pass1_faults m) _ well))
 
 pub definitions_fit : (m : HllModel) → Well m → AllByRecursion (IsFitting (names m)) (definitions m)
-definitions_fit m well = of_sections (IsFitting (names m)) (IsFaultless (names m)) definitions_in (definitions_faultless (names m)) m.sections (text_asked m well)
+definitions_fit m well = of_sections (IsFitting (names m)) (IsAskedFaultless (names m)) definitions_in (definitions_faultless (names m)) m.sections (text_asked m well)
 
 pub demands_truths : (m : HllModel) → Well m → AllByRecursion (IsTruth (names m)) (constraints m) × AllByRecursion (IsTruth (names m)) (obligations m)
 demands_truths m well =
     let asked = text_asked m well in (
-      of_sections (IsTruth (names m)) (IsFaultless (names m)) constraints_in (constraints_faultless (names m)) m.sections asked,
-      of_sections (IsTruth (names m)) (IsFaultless (names m)) obligations_in (obligations_faultless (names m)) m.sections asked,
+      of_sections (IsTruth (names m)) (IsAskedFaultless (names m)) constraints_in (constraints_faultless (names m)) m.sections asked,
+      of_sections (IsTruth (names m)) (IsAskedFaultless (names m)) obligations_in (obligations_faultless (names m)) m.sections asked,
     )
 
 -- the value of a truth value

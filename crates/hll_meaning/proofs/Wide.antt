@@ -1,5 +1,5 @@
 -- Wide ranges, by a test and by a relation.
-use Rattle.std.proofs.Common.{◌≡◌, ◌-◌, ◌^◌, ◌⊎◌, inl, inr, ℤ, pos, negsuc, ◌<ℤ◌, Bool, true, false, ◌&&◌, ◌||◌, refl, sym, ◌∙◌, arith, int_lt}
+use Rattle.std.proofs.Common.{◌≡◌, ◌-◌, ◌^◌, inl, inr, ℤ, pos, negsuc, ◌<ℤ◌, Bool, true, false, ◌&&◌, ◌||◌, refl, arith, int_lt}
 use Rattle.std.proofs.lemmas.Int.{ints}
 use Rattle.intervals.specs.Ends.{Ends, Leaves, IsWide}
 use Rattle.intervals.proofs.Comparisons.{is_lt}

@@ -7,7 +7,7 @@ use Rattle.intervals.specs.Ends.{Ends}
 use Rattle.intervals.specs.Rules.{sum, difference, product, ratio, modulus, smaller, greater, negation, absolute, multiple}
 use Rattle.hll_tree.specs.declared.tree.Cmp.{Cmp}
 use Rattle.hll_tree.specs.declared.tree.Cmp.TheVariants as cmp
-use Rattle.hll_tree.specs.declared.tree.Domain.{Domain-F}
+use Rattle.hll_tree.specs.declared.tree.Domain.{Domain, Domain-F, fold-Domain}
 use Rattle.hll_tree.specs.declared.tree.Expr.{Expr, fold-Expr}
 use Rattle.hll_tree.specs.declared.tree.Form.{Form-F}
 use Rattle.hll_tree.specs.declared.tree.Name.{Name}
@@ -491,5 +491,12 @@ form_judged (Form-F.Within e i) at c = given_whole at ((e c).faults ++ (wants_wh
 unfoldable pub judged : Expr → In Judged
 judged =
     fold-Expr (In Ranged) (ℕ → In Judged) Reached (In Judged × In Judged) (In Judged) Linked
+    domain_judged form_judged reach_judged
+    (λ b. (b.when, b.gives)) (λ e. e.form e.at) (λ link. record { op = link.op; at = link.at; with = link.with })
+
+-- what they say of a domain
+unfoldable pub domain_said : Domain → In Ranged
+domain_said =
+    fold-Domain (In Ranged) (ℕ → In Judged) Reached (In Judged × In Judged) (In Judged) Linked
     domain_judged form_judged reach_judged
     (λ b. (b.when, b.gives)) (λ e. e.form e.at) (λ link. record { op = link.op; at = link.at; with = link.with })

@@ -8,6 +8,9 @@ pub mod Runs
 pub mod Fitting
 pub mod Judging
 pub mod StaticRules
+pub mod Nodes
 pub mod Safety
 pub mod Soundness
 pub mod WellTexts
+pub mod Places
+pub mod NodeLaws

@@ -1,9 +1,8 @@
 -- What it is for a part of a text to be safe at an instant: no index that it looks at lies outside its dimension, no divisor that it
 -- looks at is 0, and what a definition gives lies in its kind.
-use Rattle.std.specs.Prelude.{◌≡◌, ℕ, ◌+◌, ◌==◌, nat_lt, ℤ, pos, negsuc, Bool, true, false, not, ◌&&◌, ◌||◌, List, [], ◌∷◌, ◌++◌, map, Option, Some, None, option_map, if◌then◌else◌}
+use Rattle.std.specs.Prelude.{◌≡◌, ℕ, ◌==◌, nat_lt, ℤ, pos, negsuc, Bool, true, false, not, ◌&&◌, ◌||◌, List, [], ◌∷◌, ◌++◌, map, Option, Some, None, option_map, if◌then◌else◌}
 use Rattle.std.specs.List.{flat_map, list_all}
 use Rattle.std.specs.Ordering.{int_eq}
-use Rattle.std.specs.Str.{bytes_eq}
 use Rattle.intervals.specs.Ends.{Ends}
 use Rattle.hll_tree.specs.declared.tree.Domain.{Domain-F}
 use Rattle.hll_tree.specs.declared.tree.Def.{Def}
@@ -15,10 +14,9 @@ use Rattle.hll_tree.specs.declared.tree.Op.TheVariants as op
 use Rattle.hll_tree.specs.declared.tree.Part.{Part}
 use Rattle.hll_tree.specs.declared.tree.Part.TheVariants as part
 use Rattle.hll_tree.specs.declared.tree.Reach.{Reach-F}
-use Rattle.hll_meaning.specs.Kinds.{Kind, truth, whole, element, array, struct, Fields, none, field, Value, Step, index, name, is_in, ranges}
+use Rattle.hll_meaning.specs.Kinds.{Kind, truth, whole, element, array, struct, Value, Step, index, name, is_in, ranges}
 use Rattle.hll_meaning.specs.Names.{Thing, constant, type_of, code_in, variable, later, under}
-use Rattle.hll_meaning.specs.Values.{History, Scene, In, number, is_true, numbers, domain_range, form_worth, reach_step, worth}
-use Rattle.hll_meaning.specs.Fitting.{field_list}
+use Rattle.hll_meaning.specs.Values.{History, Scene, In, number, is_true, numbers, domain_range, form_worth, reach_step}
 use Rattle.hll_meaning.specs.Judging.{field_at}
 use Rattle.hll_meaning.specs.Runs.{Element, picked, definitions, constraints, obligations, variables, scene}
 

@@ -1,6 +1,8 @@
 //! The laws of what texts mean. Each is a function with an empty body, whose contract is the law.
 
+ghost use Rattle.hll_meaning.specs.NodeLaws.{ExpressionsStandLast, NodesAreFaultless, RangesHoldTheirValues, ValuesOfNodesLieInTheirRanges};
 ghost use Rattle.hll_meaning.specs.Soundness.{ConstantsHaveTheirValues, DeclaredConstantsHaveTheirValues, IndicesLieInTheirRanges, NamesAreFine, NamesOfPass1Agree, ValuesLieInTheirRanges, ValuesOfTextsLieInTheirRanges, WorthsAreLookedAt};
+ghost use Rattle.hll_meaning.specs.Places.{PlacesDiffer, PlacesOfRangesDiffer};
 ghost use Rattle.hll_meaning.specs.WellTexts.{DefinitionsFit, DemandsAreTruths, DemandsHaveTruths};
 
 /// The value of an expression without static faults is one of the kind that the static rules give it, at each instant of every
@@ -53,4 +55,28 @@ pub fn demands_are_truths()
 /// these fit what it defines.
 pub fn definitions_fit()
     ensures { DefinitionsFit }
+{}
+
+/// No two expressions that stand in a text have one place, and no place has two ranges.
+pub fn places_differ()
+    ensures expressions { PlacesDiffer }
+    ensures ranges { PlacesOfRangesDiffer }
+{}
+
+/// Behind all that stands in an expression stands the expression itself.
+pub fn expressions_stand_last()
+    ensures { ExpressionsStandLast }
+{}
+
+/// In a text without static faults no expression that stands in it, at any depth, has faults where it stands.
+pub fn nodes_are_faultless()
+    ensures { NodesAreFaultless }
+{}
+
+/// In a text without static faults the value of each expression that stands in it is one of the kind that the static rules give it
+/// there, at each instant of every history whose variables lie in theirs. So each place with a range is that of such an
+/// expression, and its number lies in the range.
+pub fn values_of_nodes_lie_in_their_ranges()
+    ensures values { ValuesOfNodesLieInTheirRanges }
+    ensures ranges { RangesHoldTheirValues }
 {}

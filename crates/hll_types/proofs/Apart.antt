@@ -11,7 +11,7 @@ use Rattle.hll_meaning.specs.Declarations.{texts, is_among, place_of}
 use Rattle.hll_meaning.proofs.Faultless.{neither}
 use Rattle.hll_meaning.proofs.Scenes.{by_test, under_here, under_further}
 use Rattle.hll_types.specs.Declaring.{with_codes}
-use Rattle.hll_types.proofs.ByName.{bytes_eq-sym}
+use Rattle.hll_expressions.proofs.ByName.{bytes_eq-sym}
 use Rattle.hll_types.proofs.Coding.{place_behind}
 use Rattle.hll_types.proofs.FreshNames.{among_append}
 use Rattle.hll_types.proofs.NewSorts.{same_name, among_at}

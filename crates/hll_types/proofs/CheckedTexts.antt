@@ -5,11 +5,11 @@ use Rattle.hll_meaning.specs.Names.{Names}
 use Rattle.hll_meaning.specs.Declarations.{names}
 use Rattle.hll_meaning.specs.Judging.{Fault}
 use Rattle.hll_meaning.specs.StaticRules.{pass1_faults, pass2_faults, pass3_faults, faults}
-use Rattle.hll_types.specs.declared.fault.StaticFault.{StaticFault}
-use Rattle.hll_types.specs.Answers.{IsFaultAt, IsJudged}
+use Rattle.hll_expressions.specs.declared.faults.StaticFault.{StaticFault}
+use Rattle.hll_expressions.specs.Answers.{IsFaultAt, IsJudged}
 use Rattle.hll_types.specs.Defining.{pass2}
-use Rattle.hll_types.proofs.Firsts.{before}
-use Rattle.hll_types.proofs.FaultFolds.{same_judged}
+use Rattle.hll_expressions.proofs.Firsts.{before}
+use Rattle.hll_expressions.proofs.FaultFolds.{same_judged}
 
 -- the first fault of the first pass
 pub first_pass : (m : HllModel) (f : StaticFault) → IsFaultAt (pass1_faults m) f → IsFaultAt (faults m) f

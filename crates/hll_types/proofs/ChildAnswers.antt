@@ -7,13 +7,13 @@ use Rattle.hll_meaning.specs.Names.{Thing, Names, under}
 use Rattle.hll_meaning.specs.Declarations.{is_among}
 use Rattle.hll_meaning.specs.Judging.{Fault, Context, fault_if}
 use Rattle.hll_meaning.specs.StaticRules.{declaring, child_faults}
-use Rattle.hll_types.specs.declared.fault.StaticFault.{StaticFault}
+use Rattle.hll_expressions.specs.declared.faults.StaticFault.{StaticFault}
 use Rattle.hll_types.specs.declared.sorts.Sort.{Sort}
-use Rattle.hll_types.specs.declared.things.Things.{Things}
-use Rattle.hll_types.specs.Answers.{IsFaultAt}
+use Rattle.hll_expressions.specs.declared.things.Things.{Things}
+use Rattle.hll_expressions.specs.Answers.{IsFaultAt}
 use Rattle.hll_types.specs.Standing.{Stand, is_sort_in, has_parent, is_joined_in}
-use Rattle.hll_types.specs.Things.{names_of}
-use Rattle.hll_types.proofs.FirstFaults.{fault_front, fault_behind, fault_same, none_both, no_fault}
+use Rattle.hll_expressions.specs.Things.{names_of}
+use Rattle.hll_expressions.proofs.FirstFaults.{fault_front, fault_behind, fault_same, none_both, no_fault}
 use Rattle.hll_types.proofs.StandingNames.{stands_alike}
 
 pub parent_some : (o : Option (ℕ × ℕ)) → is_some o ≡ has_parent o

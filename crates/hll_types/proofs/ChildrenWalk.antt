@@ -15,13 +15,13 @@ use Rattle.hll_meaning.specs.Declarations.{texts, is_among, elements_under, elem
 use Rattle.hll_meaning.specs.Judging.{Fault, Context, fault_if}
 use Rattle.hll_meaning.specs.StaticRules.{child_faults, children_faults}
 use Rattle.hll_meaning.proofs.Scenes.{by_test, under_here, under_further}
-use Rattle.hll_types.specs.declared.fault.StaticFault.{StaticFault}
+use Rattle.hll_expressions.specs.declared.faults.StaticFault.{StaticFault}
 use Rattle.hll_types.specs.declared.sorts.Sort.{Sort}
-use Rattle.hll_types.specs.Answers.{IsFaultAt}
+use Rattle.hll_expressions.specs.Answers.{IsFaultAt}
 use Rattle.hll_types.specs.Standing.{is_sort_in, has_parent, is_joined_in, AreSorts}
 use Rattle.hll_types.specs.Sorting.{IsJoinedTo, IsJoining}
-use Rattle.hll_types.proofs.ByName.{bytes_eq-sym}
-use Rattle.hll_types.proofs.FirstFaults.{fault_front, fault_behind, fault_same, none_both}
+use Rattle.hll_expressions.proofs.ByName.{bytes_eq-sym}
+use Rattle.hll_expressions.proofs.FirstFaults.{fault_front, fault_behind, fault_same, none_both}
 use Rattle.hll_types.proofs.FreshNames.{AreAmong, among_append, among_more, among_moved}
 
 -- ---- faults

@@ -14,11 +14,11 @@ use Rattle.hll_meaning.specs.Declarations.{texts, is_among, elements_under, elem
 use Rattle.hll_meaning.specs.Judging.{fault_if}
 use Rattle.hll_meaning.specs.StaticRules.{fresh, fresh_name, taken_by, children_of}
 use Rattle.hll_meaning.proofs.Faultless.{empty_parts, not_so, neither}
-use Rattle.hll_types.specs.declared.fault.StaticFault.{StaticFault}
-use Rattle.hll_types.specs.Answers.{IsFaultAt}
+use Rattle.hll_expressions.specs.declared.faults.StaticFault.{StaticFault}
+use Rattle.hll_expressions.specs.Answers.{IsFaultAt}
 use Rattle.hll_types.specs.Declaring.{with_codes}
 use Rattle.hll_types.specs.Sorting.{codes_of_count}
-use Rattle.hll_types.proofs.FirstFaults.{fault_front, fault_behind, fault_same, none_both}
+use Rattle.hll_expressions.proofs.FirstFaults.{fault_front, fault_behind, fault_same, none_both}
 use Rattle.hll_types.proofs.FreshNames.{among_append, among_moved, fresh_alike, fresh_append, fresh_last, taken_append}
 
 -- ---- elements one by one

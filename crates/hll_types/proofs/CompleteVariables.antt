@@ -8,11 +8,11 @@ use Rattle.hll_meaning.specs.declared.fault.StaticKind.TheVariants as is
 use Rattle.hll_meaning.specs.Judging.{Fault, fault_if}
 use Rattle.hll_meaning.specs.StaticRules.{part_kind, is_next, definitions_of, variable_faults, first_of}
 use Rattle.hll_types.specs.declared.define.Parts.{Parts}
-use Rattle.hll_types.specs.declared.fault.StaticFault.{StaticFault}
-use Rattle.hll_types.specs.declared.fault.StaticFault.TheVariants as answer
-use Rattle.hll_types.specs.Answers.{IsFaultAt, IsJudged}
+use Rattle.hll_expressions.specs.declared.faults.StaticFault.{StaticFault}
+use Rattle.hll_expressions.specs.declared.faults.StaticFault.TheVariants as answer
+use Rattle.hll_expressions.specs.Answers.{IsFaultAt, IsJudged}
 use Rattle.hll_types.specs.Defining.{HasParts}
-use Rattle.hll_types.proofs.FaultFolds.{same_faults, same_judged, only_first}
+use Rattle.hll_expressions.proofs.FaultFolds.{same_faults, same_judged, only_first}
 
 any_found : {A : Type 0} (test : A → Bool) (xs : List A) → list_any test xs ≡ is_some (find test xs)
 any_found test [] = refl

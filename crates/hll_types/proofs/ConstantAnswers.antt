@@ -16,16 +16,16 @@ use Rattle.hll_meaning.specs.StaticRules.{declaring, wants_constant}
 use Rattle.hll_meaning.proofs.Faultless.{both}
 use Rattle.hll_meaning.proofs.FineNames.{constant_said}
 use Rattle.hll_meaning.proofs.Numbers.{number_in}
-use Rattle.hll_types.specs.declared.fault.StaticFault.{StaticFault}
-use Rattle.hll_types.specs.declared.given.Given.{Given}
-use Rattle.hll_types.specs.declared.things.Thing.{Thing}
-use Rattle.hll_types.specs.declared.things.Things.{Things}
-use Rattle.hll_types.specs.Answers.{IsFaultAt}
-use Rattle.hll_types.specs.Described.{known, number_of, Describes}
+use Rattle.hll_expressions.specs.declared.faults.StaticFault.{StaticFault}
+use Rattle.hll_expressions.specs.declared.given.Given.{Given}
+use Rattle.hll_expressions.specs.declared.things.Thing.{Thing}
+use Rattle.hll_expressions.specs.declared.things.Things.{Things}
+use Rattle.hll_expressions.specs.Answers.{IsFaultAt}
+use Rattle.hll_expressions.specs.Described.{known, number_of, Describes}
 use Rattle.hll_types.specs.Declaring.{IsTruthValue, IsWholeNumber}
 use Rattle.hll_types.specs.Standing.{Stand}
-use Rattle.hll_types.specs.Things.{names_of, said_of}
-use Rattle.hll_types.proofs.FirstFaults.{fault_front, fault_behind, fault_same, none_both}
+use Rattle.hll_expressions.specs.Things.{names_of, said_of}
+use Rattle.hll_expressions.proofs.FirstFaults.{fault_front, fault_behind, fault_same, none_both}
 use Rattle.hll_types.proofs.Lookups.{place}
 use Rattle.hll_types.proofs.StandingNames.{judged_there}
 

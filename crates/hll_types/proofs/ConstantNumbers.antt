@@ -13,11 +13,11 @@ use Rattle.hll_meaning.proofs.Faultless.{neither}
 use Rattle.hll_meaning.proofs.Numbers.{whole_holds}
 use Rattle.hll_meaning.proofs.Scenes.{by_test}
 use Rattle.hll_meaning.proofs.Wide.{narrow_so}
-use Rattle.hll_types.specs.declared.fault.StaticFault.{StaticFault}
-use Rattle.hll_types.specs.declared.given.Given.{Given}
-use Rattle.hll_types.specs.Answers.{IsFaultAt}
-use Rattle.hll_types.specs.Described.{known, number_of, Describes}
-use Rattle.hll_types.proofs.FirstFaults.{fault_same}
+use Rattle.hll_expressions.specs.declared.faults.StaticFault.{StaticFault}
+use Rattle.hll_expressions.specs.declared.given.Given.{Given}
+use Rattle.hll_expressions.specs.Answers.{IsFaultAt}
+use Rattle.hll_expressions.specs.Described.{known, number_of, Describes}
+use Rattle.hll_expressions.proofs.FirstFaults.{fault_same}
 
 -- ---- narrow ranges
 

@@ -10,15 +10,15 @@ use Rattle.hll_meaning.specs.Types.{kind_of}
 use Rattle.hll_meaning.specs.Judging.{fault_if, Context, Judged, judged, wants_truth}
 use Rattle.hll_meaning.specs.StaticRules.{Left, with_slot, left_side, asking, given_faults, left_faults, defined_faults, definition_faults, is_repeated}
 use Rattle.hll_types.specs.declared.define.Defined.{Defined}
-use Rattle.hll_types.specs.declared.fault.StaticFault.{StaticFault}
-use Rattle.hll_types.specs.declared.given.Given.{Given}
-use Rattle.hll_types.specs.declared.scope.Index.{Index}
-use Rattle.hll_types.specs.Answers.{IsFaultAt, IsJudged}
-use Rattle.hll_types.specs.Described.{known, Describes, WantsTruth}
-use Rattle.hll_types.specs.Scopes.{index_names}
+use Rattle.hll_expressions.specs.declared.faults.StaticFault.{StaticFault}
+use Rattle.hll_expressions.specs.declared.given.Given.{Given}
+use Rattle.hll_expressions.specs.declared.scope.Index.{Index}
+use Rattle.hll_expressions.specs.Answers.{IsFaultAt, IsJudged}
+use Rattle.hll_expressions.specs.Described.{known, Describes, WantsTruth}
+use Rattle.hll_expressions.specs.Scopes.{index_names}
 use Rattle.hll_types.specs.Defining.{left_of, part_faults, demand_faults, Keeps}
-use Rattle.hll_types.proofs.Firsts.{before, behind, none_both, not_so}
-use Rattle.hll_types.proofs.Describing.{no_truth, truth_wanted}
+use Rattle.hll_expressions.proofs.Firsts.{before, behind, none_both, not_so}
+use Rattle.hll_expressions.proofs.Describing.{no_truth, truth_wanted}
 
 module _ (all : Names) (own : List Def) (d : Def) where
   -- a definition that comes twice

@@ -6,10 +6,10 @@ use Rattle.hll_tree.specs.declared.tree.Expr.{Expr}
 use Rattle.hll_meaning.specs.Kinds.{Kind, array}
 use Rattle.hll_meaning.specs.Judging.{Context, judged}
 use Rattle.hll_meaning.specs.StaticRules.{dim_faults, dims_faults}
-use Rattle.hll_types.specs.declared.fault.StaticFault.{StaticFault}
-use Rattle.hll_types.specs.Answers.{IsFaultAt}
+use Rattle.hll_expressions.specs.declared.faults.StaticFault.{StaticFault}
+use Rattle.hll_expressions.specs.Answers.{IsFaultAt}
 use Rattle.hll_types.specs.Written.{said_size, arrays}
-use Rattle.hll_types.proofs.FirstFaults.{fault_front, fault_behind, fault_same, none_both}
+use Rattle.hll_expressions.proofs.FirstFaults.{fault_front, fault_behind, fault_same, none_both}
 
 -- one dimension more
 dims_further : (c : Context) (es : List Expr) (e : Expr) → dims_faults c (es ++ e ∷ []) ≡ dims_faults c es ++ dim_faults (judged e c)

@@ -13,9 +13,10 @@ use Rattle.hll_meaning.specs.Names.{Thing, Names, later, under}
 use Rattle.hll_meaning.proofs.FineNames.{further_on}
 use Rattle.hll_types.specs.declared.declare.Declared.{Declared}
 use Rattle.hll_types.specs.declared.sorts.Sort.{Sort}
-use Rattle.hll_types.specs.Standing.{declared_names, names_further, AreSorts}
+use Rattle.hll_types.specs.Standing.{AreSorts}
+use Rattle.hll_expressions.specs.Things.{declared_names, names_further}
 use Rattle.hll_types.specs.Declaring.{IsAfter, start}
-use Rattle.hll_types.proofs.WrittenTypes.{under_front, under_back}
+use Rattle.hll_expressions.proofs.ByName.{under_front, under_back}
 
 under_same : (q : List ℕ) (xs ys zs : Names) → under q xs ≡ under q ys → under q (xs ++ zs) ≡ under q (ys ++ zs)
 under_same q xs ys zs same = either (under q xs) refl

@@ -11,13 +11,13 @@ use Rattle.hll_meaning.specs.Types.{kind_of}
 use Rattle.hll_meaning.specs.Declarations.{written_kind, with_dims, declared_kind, field_kinds}
 use Rattle.hll_meaning.specs.Judging.{Context}
 use Rattle.hll_meaning.specs.StaticRules.{declaring, fresh_name, written_faults, dims_faults, fields_faults}
-use Rattle.hll_types.specs.declared.fault.StaticFault.{StaticFault}
+use Rattle.hll_expressions.specs.declared.faults.StaticFault.{StaticFault}
 use Rattle.hll_types.specs.declared.measure.Measure.{Measure}
-use Rattle.hll_types.specs.Answers.{IsFaultAt}
+use Rattle.hll_expressions.specs.Answers.{IsFaultAt}
 use Rattle.hll_types.specs.Measures.{kind_measure, fields_measure, field_kinds_of}
 use Rattle.hll_types.specs.Declaring.{field_faults, IsField}
 use Rattle.hll_types.specs.Standing.{IsKindWithDims}
-use Rattle.hll_types.proofs.FirstFaults.{fault_front, fault_behind, fault_same, none_both}
+use Rattle.hll_expressions.proofs.FirstFaults.{fault_front, fault_behind, fault_same, none_both}
 use Rattle.hll_types.proofs.FreshNames.{AreAmong, among_more, among_moved, fresh_alike}
 use Rattle.hll_types.proofs.Measuring.{sum_within, greater_within}
 

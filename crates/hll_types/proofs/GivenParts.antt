@@ -6,13 +6,13 @@ use Rattle.hll_tree.specs.declared.tree.Part.{Part}
 use Rattle.hll_tree.specs.declared.tree.Part.TheVariants as part
 use Rattle.hll_meaning.specs.Kinds.{Kind}
 use Rattle.hll_meaning.specs.Judging.{Context, Judged, judged}
-use Rattle.hll_types.specs.declared.fault.StaticFault.{StaticFault}
-use Rattle.hll_types.specs.declared.given.Given.{Given}
-use Rattle.hll_types.specs.Answers.{IsFaultAt, IsJudged}
-use Rattle.hll_types.specs.Described.{known, Describes}
+use Rattle.hll_expressions.specs.declared.faults.StaticFault.{StaticFault}
+use Rattle.hll_expressions.specs.declared.given.Given.{Given}
+use Rattle.hll_expressions.specs.Answers.{IsFaultAt, IsJudged}
+use Rattle.hll_expressions.specs.Described.{known, Describes}
 use Rattle.hll_types.specs.Defining.{part_faults}
-use Rattle.hll_types.proofs.Firsts.{before, behind, none_both}
-use Rattle.hll_types.proofs.FaultFolds.{same_faults, same_judged}
+use Rattle.hll_expressions.proofs.Firsts.{before, behind, none_both}
+use Rattle.hll_expressions.proofs.FaultFolds.{same_faults, same_judged}
 
 -- ---- one expression
 

@@ -17,12 +17,12 @@ use Rattle.hll_meaning.specs.Judging.{fault_if, judged}
 use Rattle.hll_meaning.specs.StaticRules.{declaring, fresh_name, taken_by, written_faults, dims_faults, is_large, fields_faults, wants_constant, item_faults, Pass1, pass1_item}
 use Rattle.hll_meaning.proofs.KindForms.{kind_of_struct}
 use Rattle.hll_types.specs.declared.declare.Declared.{Declared}
-use Rattle.hll_types.specs.declared.fault.StaticFault.{StaticFault}
-use Rattle.hll_types.specs.Answers.{IsFaultAt}
-use Rattle.hll_types.specs.Standing.{declared_names, IsAdded}
+use Rattle.hll_expressions.specs.declared.faults.StaticFault.{StaticFault}
+use Rattle.hll_expressions.specs.Answers.{IsFaultAt}
+use Rattle.hll_expressions.specs.Things.{declared_names, IsAdded}
 use Rattle.hll_types.specs.Measures.{field_kinds_of}
 use Rattle.hll_types.specs.Declaring.{IsAfter}
-use Rattle.hll_types.proofs.FirstFaults.{fault_front, fault_behind, fault_same, none_both, no_fault}
+use Rattle.hll_expressions.proofs.FirstFaults.{fault_front, fault_behind, fault_same, none_both, no_fault}
 use Rattle.hll_types.proofs.SortTables.{IsOther}
 use Rattle.hll_types.proofs.PassSteps.{after_constant, after_type}
 

@@ -17,6 +17,7 @@ use Rattle.hll_meaning.proofs.Faultless.{neither}
 use Rattle.hll_meaning.specs.StaticRules.{PartKind, value, both, first, next, part_kind, is_complete, is_first, is_next, clashes, definitions_of}
 use Rattle.hll_types.specs.declared.define.Defined.{Defined}
 use Rattle.hll_types.specs.declared.define.Parts.{Parts}
+use Rattle.hll_types.specs.Checked.{is_memory}
 use Rattle.hll_types.specs.Defining.{HasParts, clashes_with, no_parts, parts_under, Keeps}
 
 or_true : (b : Bool) → (b || true) ≡ true
@@ -33,6 +34,9 @@ any_complete own = list_any (λ d. is_complete (part_kind d.part)) own
 
 abbrev any_first : List Def → Bool
 any_first own = list_any (λ d. is_first (part_kind d.part)) own
+
+abbrev any_memory : List Def → Bool
+any_memory own = list_any (λ d. is_memory (part_kind d.part)) own
 
 -- the first one for the next instant
 abbrev next_of : List Def → Option Def
@@ -121,10 +125,10 @@ either_right a b h = ap (λ x. x || b) (sym h)
 
 -- the parts with one more
 abbrev pub with_part : Parts → PartKind → ℕ → Parts
-with_part p value at = record { whole = true; first = p.first; next = p.next }
-with_part p both at = record { whole = true; first = p.first; next = p.next }
-with_part p first at = record { whole = p.whole; first = true; next = p.next }
-with_part p next at = record { whole = p.whole; first = p.first; next = Some at }
+with_part p value at = record { whole = true; first = p.first; next = p.next; memory = p.memory }
+with_part p both at = record { whole = true; first = p.first; next = p.next; memory = true }
+with_part p first at = record { whole = p.whole; first = true; next = p.next; memory = true }
+with_part p next at = record { whole = p.whole; first = p.first; next = Some at; memory = true }
 
 or_none : {A : Type 0} (o : Option A) → option_or o None ≡ o
 or_none None = refl
@@ -143,6 +147,12 @@ one_more own p d has no_clash = by (part_kind d.part) refl
     first_more : (k : PartKind) → part_kind d.part ≡ k → any_first (own ++ d ∷ []) ≡ (any_first own || (is_first k || false))
     first_more k is = list_any-append (λ e. is_first (part_kind e.part)) own (d ∷ []) ∙ ap (λ x. any_first own || (is_first x || false)) is
 
+    memory_more : (k : PartKind) → part_kind d.part ≡ k → any_memory (own ++ d ∷ []) ≡ (any_memory own || (is_memory k || false))
+    memory_more k is = list_any-append (λ e. is_memory (part_kind e.part)) own (d ∷ []) ∙ ap (λ x. any_memory own || (is_memory x || false)) is
+
+    of_memory : (k : PartKind) → part_kind d.part ≡ k → is_memory k ≡ true → true ≡ any_memory (own ++ d ∷ [])
+    of_memory k is given = sym (memory_more k is ∙ ap (λ b. any_memory own || (b || false)) given ∙ or_true (any_memory own))
+
     next_more : (k : PartKind) → part_kind d.part ≡ k → next_of (own ++ d ∷ []) ≡ option_or (next_of own) (cond (is_next k) (Some d) None)
     next_more k is = find-append (λ e. is_next (part_kind e.part)) own (d ∷ []) ∙ ap (λ x. option_or (next_of own) (cond (is_next x) (Some d) None)) is
 
@@ -153,28 +163,40 @@ one_more own p d has no_clash = by (part_kind d.part) refl
     same_next k is other = has.next ∙ ap (option_map (λ e. e.at)) (sym (next_more k is ∙ ap (λ b. option_or (next_of own) (cond b (Some d) None)) other ∙ or_none (next_of own)))
 
     by : (k : PartKind) → part_kind d.part ≡ k → HasParts (own ++ d ∷ []) (with_part p k d.at)
-    by value is = record { whole = sym (whole_more value is ∙ or_true (any_complete own)); first = has.first ∙ sym (first_more value is ∙ or_false (any_first own)); next = same_next value is refl }
-    by both is = record { whole = sym (whole_more both is ∙ or_true (any_complete own)); first = has.first ∙ sym (first_more both is ∙ or_false (any_first own)); next = same_next both is refl }
-    by first is = record { whole = has.whole ∙ sym (whole_more first is ∙ or_false (any_complete own)); first = sym (first_more first is ∙ or_true (any_first own)); next = same_next first is refl }
+    by value is = record {
+      whole = sym (whole_more value is ∙ or_true (any_complete own));
+      first = has.first ∙ sym (first_more value is ∙ or_false (any_first own));
+      next = same_next value is refl;
+      memory = has.memory ∙ sym (memory_more value is ∙ or_false (any_memory own));
+    }
+    by both is = record {
+      whole = sym (whole_more both is ∙ or_true (any_complete own));
+      first = has.first ∙ sym (first_more both is ∙ or_false (any_first own));
+      next = same_next both is refl;
+      memory = of_memory both is refl;
+    }
+    by first is = record {
+      whole = has.whole ∙ sym (whole_more first is ∙ or_false (any_complete own));
+      first = sym (first_more first is ∙ or_true (any_first own));
+      next = same_next first is refl;
+      memory = of_memory first is refl;
+    }
     by next is = record {
       whole = has.whole ∙ sym (whole_more next is ∙ or_false (any_complete own));
       first = has.first ∙ sym (first_more next is ∙ or_false (any_first own));
       next = ap (option_map (λ e. e.at)) (sym (next_more next is ∙ ap (λ o. option_or o (Some d)) (none_before is)));
+      memory = of_memory next is refl;
     }
 
 -- the part of a definition is of this kind
 pub one_more_of : (own : List Def) (p : Parts) (d : Def) (x : Part) → d.part ≡ x → HasParts own p → clashes_with own d.part ≡ false → HasParts (own ++ d ∷ []) (with_part p (part_kind x) d.at)
 one_more_of own p d x is has no_clash = subst (λ (y : Part). HasParts (own ++ d ∷ []) (with_part p (part_kind y) d.at)) is (one_more own p d has no_clash)
 
-pub one_more_whole : (own : List Def) (p : Parts) (d : Def) → IsWhole d.part → HasParts own p → clashes_with own d.part ≡ false → HasParts (own ++ d ∷ []) (record { whole = true; first = p.first; next = p.next })
-one_more_whole own p d (inl h) has no_clash = one_more_of own p d (part.Value h.0) h.1 has no_clash
-one_more_whole own p d (inr h) has no_clash = one_more_of own p d (part.Both h.0 h.1) h.2 has no_clash
-
 -- ---- what is kept
 
 -- before the first definition nothing is kept
 pub none_kept : (d : Defined) → d.by_name.entries ≡ [] → Keeps d []
-none_kept d none name = subst (λ es. HasParts [] (unwrap_or (lookup (λ k. bytes_eq name k.now) es) no_parts)) (sym none) (record { whole = refl; first = refl; next = refl })
+none_kept d none name = subst (λ es. HasParts [] (unwrap_or (lookup (λ k. bytes_eq name k.now) es) no_parts)) (sym none) (record { whole = refl; first = refl; next = refl; memory = refl })
 
 -- an entry that is put under a name
 pub put : (old new : Defined) (key : Bor (List ℕ)) (v : Parts) → ((q : Bor (List ℕ)) → lookup (λ k. bytes_eq q.now k.now) new.by_name.entries ≡ cond (bytes_eq key.now q.now) (Some v) (lookup (λ k. bytes_eq q.now k.now) old.by_name.entries)) → (name : List ℕ) → parts_under new name ≡ cond (bytes_eq key.now name) v (parts_under old name)

@@ -18,16 +18,16 @@ use Rattle.hll_meaning.specs.Types.{kind_of}
 use Rattle.hll_meaning.specs.Declarations.{is_among}
 use Rattle.hll_meaning.specs.Judging.{Fault, fault_if, from_to}
 use Rattle.hll_meaning.specs.StaticRules.{Left, index_level, with_slot, fresh_name}
-use Rattle.hll_types.specs.declared.fault.StaticFault.{StaticFault}
-use Rattle.hll_types.specs.declared.fault.StaticFault.TheVariants as answer
-use Rattle.hll_types.specs.declared.scope.Bounds.{Indices}
-use Rattle.hll_types.specs.declared.scope.Index.{Index}
-use Rattle.hll_types.specs.Answers.{IsFaultAt}
-use Rattle.hll_types.specs.Scopes.{index_names, bound_names}
+use Rattle.hll_expressions.specs.declared.faults.StaticFault.{StaticFault}
+use Rattle.hll_expressions.specs.declared.faults.StaticFault.TheVariants as answer
+use Rattle.hll_expressions.specs.declared.scope.Bounds.{Indices}
+use Rattle.hll_expressions.specs.declared.scope.Index.{Index}
+use Rattle.hll_expressions.specs.Answers.{IsFaultAt}
+use Rattle.hll_expressions.specs.Scopes.{index_names, bound_names}
 use Rattle.hll_types.specs.Defining.{left_of}
-use Rattle.hll_types.proofs.KindForms.{kind_of_bool, kind_of_int, kind_of_elem, kind_of_array, kind_of_struct}
-use Rattle.hll_types.proofs.ScopeLemmas.{bound_indices}
-use Rattle.hll_types.proofs.Firsts.{before, behind, not_so}
+use Rattle.hll_expressions.proofs.KindForms.{kind_of_bool, kind_of_int, kind_of_elem, kind_of_array, kind_of_struct}
+use Rattle.hll_expressions.proofs.ScopeLemmas.{bound_indices}
+use Rattle.hll_expressions.proofs.Firsts.{before, behind, not_so}
 
 -- whether something stands under a name
 pub is_some_under : {A : Type 0} (name : List ℕ) (xs : List (List ℕ × A)) → is_some (under name xs) ≡ is_among (map {B = List ℕ} (λ x. x.0) xs) name

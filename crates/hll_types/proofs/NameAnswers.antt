@@ -6,15 +6,15 @@ use Rattle.hll_meaning.specs.declared.fault.StaticKind.TheVariants as is
 use Rattle.hll_meaning.specs.Declarations.{is_among}
 use Rattle.hll_meaning.specs.Judging.{Fault, Context, judged, fault_if}
 use Rattle.hll_meaning.specs.StaticRules.{fresh_name}
-use Rattle.hll_types.specs.declared.fault.StaticFault.{StaticFault}
-use Rattle.hll_types.specs.declared.fault.StaticFault.TheVariants.{Memory}
-use Rattle.hll_types.specs.declared.given.Given.{Given}
-use Rattle.hll_types.specs.declared.scope.Bounds.{Indices, fold_out-Bounds}
-use Rattle.hll_types.specs.declared.scope.Bounds.TheVariants.{outs-Indices}
-use Rattle.hll_types.specs.Answers.{IsFaultAt, IsJudged, RefusesIf}
-use Rattle.hll_types.specs.Described.{Describes}
-use Rattle.hll_types.specs.Scopes.{bound_form, bound_names}
-use Rattle.hll_types.proofs.FirstFaults.{fault_front, fault_same}
+use Rattle.hll_expressions.specs.declared.faults.StaticFault.{StaticFault}
+use Rattle.hll_expressions.specs.declared.faults.StaticFault.TheVariants.{Memory}
+use Rattle.hll_expressions.specs.declared.given.Given.{Given}
+use Rattle.hll_expressions.specs.declared.scope.Bounds.{Indices, fold_out-Bounds}
+use Rattle.hll_expressions.specs.declared.scope.Bounds.TheVariants.{outs-Indices}
+use Rattle.hll_expressions.specs.Answers.{IsFaultAt, IsJudged, RefusesIf}
+use Rattle.hll_expressions.specs.Described.{Describes}
+use Rattle.hll_expressions.specs.Scopes.{bound_form, bound_names}
+use Rattle.hll_expressions.proofs.FirstFaults.{fault_front, fault_same}
 
 -- no index names
 pub no_bounds : (place : ℕ × ℕ) → bound_names (Indices (record { ref_ptr = place; now = [] })) ≡ []

@@ -14,7 +14,7 @@ use Rattle.hll_types.specs.declared.sorts.Sort.{Sort}
 use Rattle.hll_types.specs.Standing.{is_sort_in, has_parent, is_joined_in, IsPlaced, AreSorts}
 use Rattle.hll_types.proofs.FreshNames.{among_append}
 use Rattle.hll_types.proofs.SortTables.{table_further, root_further, sorts_further, children_further}
-use Rattle.hll_types.proofs.WrittenTypes.{under_front, under_back}
+use Rattle.hll_expressions.proofs.ByName.{under_front, under_back}
 
 -- ---- names
 

@@ -19,10 +19,11 @@ use Rattle.hll_meaning.proofs.Faultless.{first_empty, second_empty, not_so, neit
 use Rattle.hll_meaning.proofs.Scenes.{by_test, under_here, under_further}
 use Rattle.hll_types.specs.declared.declare.Declared.{Declared}
 use Rattle.hll_types.specs.declared.sorts.Sort.{Sort}
-use Rattle.hll_types.specs.Standing.{is_sort_in, is_joined_in, IsAdded, IsPlaced, AreSorts}
+use Rattle.hll_types.specs.Standing.{is_sort_in, is_joined_in, IsPlaced, AreSorts}
+use Rattle.hll_expressions.specs.Things.{IsAdded}
 use Rattle.hll_types.specs.Sorting.{codes_of_count, IsJoinedTo, IsJoining}
 use Rattle.hll_types.specs.Declaring.{IsAfter}
-use Rattle.hll_types.proofs.FirstFaults.{none_both}
+use Rattle.hll_expressions.proofs.FirstFaults.{none_both}
 use Rattle.hll_types.proofs.FreshNames.{among_append, new_name, taken_append}
 use Rattle.hll_types.proofs.SortTables.{table_further, root_further, sorts_further, children_further}
 use Rattle.hll_types.proofs.NewSorts.{sort_last, joined_last, other_name, same_name, among_at, at_front, at_other, elements_others, elements_here}
@@ -30,7 +31,7 @@ use Rattle.hll_types.proofs.ChildrenWalk.{children_append, under_of}
 use Rattle.hll_types.proofs.Coding.{root_alone, sort_kind_so}
 use Rattle.hll_types.proofs.PassSteps.{stand_further, taken_more}
 use Rattle.hll_types.proofs.SortSteps.{first_names, names_same, not_in_table, no_sort, no_elements, no_child}
-use Rattle.hll_types.proofs.WrittenTypes.{under_front, under_back}
+use Rattle.hll_expressions.proofs.ByName.{under_front, under_back}
 
 -- ---- lists
 

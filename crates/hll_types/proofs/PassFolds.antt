@@ -16,11 +16,11 @@ use Rattle.hll_meaning.specs.Runs.{definitions, definitions_in}
 use Rattle.hll_meaning.specs.Judging.{Fault}
 use Rattle.hll_meaning.specs.StaticRules.{definition_faults, Asked, defines, demands, asked_in, Pass2, pass2_item, declared_in, variable_faults}
 use Rattle.hll_types.specs.declared.define.Defined.{Defined}
-use Rattle.hll_types.specs.declared.fault.StaticFault.{StaticFault}
-use Rattle.hll_types.specs.Answers.{IsFaultAt, IsJudged}
+use Rattle.hll_expressions.specs.declared.faults.StaticFault.{StaticFault}
+use Rattle.hll_expressions.specs.Answers.{IsFaultAt, IsJudged}
 use Rattle.hll_types.specs.Defining.{Keeps, IsAfter, with_definition, demand_faults, AreDefinitions, AreAsked, pass2, declarator_faults}
-use Rattle.hll_types.proofs.Firsts.{before, behind, none_both}
-use Rattle.hll_types.proofs.FaultFolds.{step_more, stays_first, first_of_step, fold_nested, flat_map_nested, same_judged}
+use Rattle.hll_expressions.proofs.Firsts.{before, behind, none_both}
+use Rattle.hll_expressions.proofs.FaultFolds.{step_more, stays_first, first_of_step, fold_nested, flat_map_nested, same_judged}
 
 -- before the first section
 abbrev pub at_first : Pass2

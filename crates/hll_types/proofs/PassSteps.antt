@@ -10,10 +10,11 @@ use Rattle.hll_meaning.specs.Declarations.{Item, a_constant, a_type, variables_o
 use Rattle.hll_meaning.specs.StaticRules.{declaring, taken_by, item_faults, Pass1, pass1_item, types_of_item, children_of, declared_cells}
 use Rattle.hll_meaning.proofs.FineNames.{further_fine}
 use Rattle.hll_types.specs.declared.declare.Declared.{Declared}
-use Rattle.hll_types.specs.declared.things.Things.{Things}
-use Rattle.hll_types.specs.Standing.{Stand, IsAdded, AreSorts}
+use Rattle.hll_expressions.specs.declared.things.Things.{Things}
+use Rattle.hll_types.specs.Standing.{Stand, AreSorts}
+use Rattle.hll_expressions.specs.Things.{IsAdded}
 use Rattle.hll_types.specs.Declaring.{IsAfter}
-use Rattle.hll_types.proofs.FirstFaults.{none_both}
+use Rattle.hll_expressions.proofs.FirstFaults.{none_both}
 use Rattle.hll_types.proofs.FreshNames.{among_append, taken_append}
 use Rattle.hll_types.proofs.SortTables.{IsOther, sorts_same, known_same, same_children}
 

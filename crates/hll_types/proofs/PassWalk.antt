@@ -8,10 +8,10 @@ use Rattle.hll_tree.specs.declared.tree.Section.{Section}
 use Rattle.hll_meaning.specs.Declarations.{Item, items_in}
 use Rattle.hll_meaning.specs.Judging.{Fault}
 use Rattle.hll_meaning.specs.StaticRules.{Pass1, declaring, item_faults, pass1_item, early_in}
-use Rattle.hll_types.specs.declared.fault.StaticFault.{StaticFault}
-use Rattle.hll_types.specs.Answers.{IsFaultAt}
+use Rattle.hll_expressions.specs.declared.faults.StaticFault.{StaticFault}
+use Rattle.hll_expressions.specs.Answers.{IsFaultAt}
 use Rattle.hll_types.specs.Declaring.{early_in_section}
-use Rattle.hll_types.proofs.FirstFaults.{fault_front, fault_behind, fault_same}
+use Rattle.hll_expressions.proofs.FirstFaults.{fault_front, fault_behind, fault_same}
 
 -- the faults of further items go behind
 rest_of : (further : List (List ℕ)) (its : List Item) (p : Pass1) → (rest : List Fault) × ((fold (pass1_item further) p its).faults ≡ p.faults ++ rest)

@@ -15,7 +15,7 @@ use Rattle.hll_types.specs.Settling.{Roots, kind_in, names_in}
 use Rattle.hll_types.specs.Sorting.{codes_of_count}
 use Rattle.hll_types.proofs.Apart.{AreApart, IsWithin, front_apart, places_there}
 use Rattle.hll_types.proofs.Coding.{place_behind}
-use Rattle.hll_types.proofs.WrittenTypes.{under_front}
+use Rattle.hll_expressions.proofs.ByName.{under_front}
 
 -- ---- what is declared stays
 

@@ -1,9 +1,7 @@
 -- Types and things with the roots of their elements, form by form.
-use Rattle.std.proofs.Common.{◌≡◌, ℕ, ◌-◌, ◌^◌, ◌<◌, ℤ, pos, negsuc, ◌+ℤ◌, ◌≤ℤ◌, unsigned_abs, FitsSigned, to_z, of_z, false, List, [], ◌∷◌, ◌++◌, map, refl, sym, ap, subst, ◌∙◌, append_assoc, arith}
+use Rattle.std.proofs.Common.{◌≡◌, ℕ, ◌-◌, ◌^◌, ◌<◌, ℤ, pos, negsuc, ◌+ℤ◌, ◌≤ℤ◌, unsigned_abs, FitsSigned, to_z, of_z, false, List, [], ◌∷◌, ◌++◌, refl, sym, ap, subst, ◌∙◌, append_assoc, arith}
 use Rattle.std.proofs.lemmas.Int.{ints, fits_signed_from_abs, to_z-of_z}
 use Rattle.std.specs.Int.{w128}
-use Rattle.std.specs.List.{AllByRecursion, IsDistinct}
-use Rattle.std.specs.Str.{bytes_eq}
 use Rattle.intervals.specs.declared.interval.Interval.{Interval}
 use Rattle.hll_meaning.specs.declared.ty.FieldTy.{FieldTy}
 use Rattle.hll_meaning.specs.declared.ty.Ty.{Ty, Bool, Int, Elem, Array, Struct}
@@ -16,8 +14,7 @@ use Rattle.hll_types.specs.Measures.{field_kinds_of}
 use Rattle.hll_types.specs.Settling.{Roots, kind_in, fields_in, thing_in, names_in}
 use Rattle.hll_types.proofs.Apart.{AreApart, front_apart}
 use Rattle.hll_types.proofs.FreshNames.{taken_append}
-use Rattle.hll_types.proofs.KindForms.{kind_of_bool, kind_of_int, kind_of_elem, kind_of_array, kind_of_struct}
-use Rattle.hll_types.proofs.ThingNames.{as_names}
+use Rattle.hll_expressions.proofs.KindForms.{kind_of_bool, kind_of_int, kind_of_elem, kind_of_array, kind_of_struct}
 
 module _ (r : Roots) (t : Ty) where
   pub bool_in : t ≡ Bool → kind_of Bool ≡ kind_in r (kind_of t)
@@ -69,17 +66,6 @@ element_moved root before place codes moved is same =
     kind_of_elem root moved ∙ ap (element root) same ∙ (λ i. element (is i).0 (record { lo = codes.lo +ℤ pos (is i).1; hi = codes.hi +ℤ pos (is i).1 }))
 
 -- ---- names one by one
-
--- keys that differ are names that differ
-names_distinct : {K X : Type 0} (name : K → List ℕ) (said : X → Said) (n : List ℕ) (es : List (K × X)) → AllByRecursion (λ y. bytes_eq n (name y) ≡ false) (map (λ e. e.0) es) →
-    AllByRecursion (λ y. bytes_eq n y ≡ false) (map (λ x. x.0) (as_names name said es))
-names_distinct name said n [] h = tt
-names_distinct name said n (e ∷ es) h = (h.0, names_distinct name said n es h.1)
-
-pub keys_distinct : {K X : Type 0} (name : K → List ℕ) (said : X → Said) (es : List (K × X)) → IsDistinct (λ x y. bytes_eq (name x) (name y)) (map (λ e. e.0) es) → IsDistinct bytes_eq (map (λ x. x.0) (as_names name said es))
-unfolding IsDistinct
-keys_distinct name said [] h = tt
-keys_distinct name said (e ∷ es) h = (names_distinct name said (name e.0) es h.0, keys_distinct name said es h.1)
 
 same_names : (r : Roots) (xs : Names) → taken_by (names_in r xs) ≡ taken_by xs
 same_names r [] = refl

@@ -34,7 +34,7 @@ use Rattle.hll_types.proofs.SortSteps.{fresh_alone}
 use Rattle.hll_types.proofs.SortTables.{table_further, root_further}
 use Rattle.hll_types.proofs.TidyPass.{AreTidy, tidy_item, tidy_pass}
 use Rattle.hll_types.proofs.TidyTables.{tidy_none}
-use Rattle.hll_types.proofs.WrittenTypes.{under_back}
+use Rattle.hll_expressions.proofs.ByName.{under_back}
 
 -- these are the roots of the sorts of a text
 abbrev pub AreRoots : List TypeItem → Roots → Type 0

@@ -12,15 +12,15 @@ use Rattle.hll_meaning.specs.Declarations.{a_type, texts, is_among, coded, sort_
 use Rattle.hll_meaning.specs.StaticRules.{declaring, fresh, fresh_name, taken_by, item_faults, Pass1, pass1_item, sort_of, children_of, children_faults}
 use Rattle.hll_meaning.proofs.Faultless.{neither}
 use Rattle.hll_types.specs.declared.declare.Declared.{Declared}
-use Rattle.hll_types.specs.declared.fault.StaticFault.{StaticFault}
+use Rattle.hll_expressions.specs.declared.faults.StaticFault.{StaticFault}
 use Rattle.hll_types.specs.declared.sorts.Sort.{Sort}
-use Rattle.hll_types.specs.Answers.{IsFaultAt}
-use Rattle.hll_types.specs.Standing.{declared_names, names_further, IsAdded}
+use Rattle.hll_expressions.specs.Answers.{IsFaultAt}
+use Rattle.hll_expressions.specs.Things.{declared_names, names_further, IsAdded}
 use Rattle.hll_types.specs.Sorting.{codes_of_count, IsJoining}
 use Rattle.hll_types.specs.Declaring.{IsAfter, SortIsDeclared, with_codes}
-use Rattle.hll_types.proofs.FirstFaults.{fault_front, fault_behind, fault_same}
+use Rattle.hll_expressions.proofs.FirstFaults.{fault_front, fault_behind, fault_same}
 use Rattle.hll_types.proofs.FreshNames.{among_append, fresh_last, new_name, taken_append}
-use Rattle.hll_types.proofs.ByName.{insert_new}
+use Rattle.hll_expressions.proofs.ByName.{insert_new}
 use Rattle.hll_types.proofs.NewSorts.{IsOwn}
 use Rattle.hll_types.proofs.Coding.{taken_codes}
 use Rattle.hll_types.proofs.SortSteps.{no_sort, after_sort}

@@ -16,10 +16,11 @@ use Rattle.hll_meaning.proofs.Faultless.{empty_parts, not_so}
 use Rattle.hll_meaning.proofs.Scenes.{by_test}
 use Rattle.hll_types.specs.declared.declare.Declared.{Declared}
 use Rattle.hll_types.specs.declared.sorts.Sort.{Sort}
-use Rattle.hll_types.specs.Standing.{has_parent, IsAdded, AreSorts}
+use Rattle.hll_types.specs.Standing.{has_parent, AreSorts}
+use Rattle.hll_expressions.specs.Things.{IsAdded}
 use Rattle.hll_types.specs.Sorting.{codes_of_count}
 use Rattle.hll_types.specs.Declaring.{IsAfter, with_codes}
-use Rattle.hll_types.proofs.FirstFaults.{none_both}
+use Rattle.hll_expressions.proofs.FirstFaults.{none_both}
 use Rattle.hll_types.proofs.FreshNames.{among_append, fresh_last, new_name, not_under, taken_append}
 use Rattle.hll_types.proofs.SortTables.{table_further, root_further}
 use Rattle.hll_types.proofs.NewSorts.{IsOwn, elements_here, own_children, sorts_own}

@@ -8,12 +8,13 @@ use Rattle.hll_meaning.specs.Names.{Names, under}
 use Rattle.hll_meaning.specs.Judging.{Context, judged}
 use Rattle.hll_meaning.specs.StaticRules.{declaring, written_faults, dims_faults}
 use Rattle.hll_meaning.proofs.FineNames.{further_on}
-use Rattle.hll_types.specs.declared.fault.StaticFault.{StaticFault}
-use Rattle.hll_types.specs.declared.things.Things.{Things}
-use Rattle.hll_types.specs.Standing.{names_further, Stand, IsKindWritten, IsKindWithDims}
-use Rattle.hll_types.specs.Things.{names_of}
+use Rattle.hll_expressions.specs.declared.faults.StaticFault.{StaticFault}
+use Rattle.hll_expressions.specs.declared.things.Things.{Things}
+use Rattle.hll_types.specs.Standing.{Stand, IsKindWritten, IsKindWithDims}
+use Rattle.hll_expressions.specs.Things.{names_further}
+use Rattle.hll_expressions.specs.Things.{names_of}
 use Rattle.hll_types.specs.Written.{IsWritten, HasDims}
-use Rattle.hll_types.proofs.FirstFaults.{fault_same}
+use Rattle.hll_expressions.proofs.FirstFaults.{fault_same}
 use Rattle.hll_types.proofs.Lookups.{place, LookAlike, judged_alike}
 use Rattle.hll_types.proofs.WrittenTypes.{alike_behind, dims_so, written_so, dims_faults_same, dims_same, written_faults_same, written_same}
 

@@ -13,11 +13,11 @@ use Rattle.hll_meaning.specs.Declarations.{variables_of, texts, is_among, writte
 use Rattle.hll_meaning.specs.StaticRules.{declaring, fresh, is_large, dims_faults, fresh_name, taken_by, written_faults, item_faults, Pass1, pass1_item, declarators_faults}
 use Rattle.hll_meaning.proofs.Faultless.{empty_parts, first_empty, second_empty, not_so}
 use Rattle.hll_types.specs.declared.declare.Declared.{Declared}
-use Rattle.hll_types.specs.declared.fault.StaticFault.{StaticFault}
-use Rattle.hll_types.specs.Answers.{IsFaultAt}
-use Rattle.hll_types.specs.Standing.{declared_names, IsAdded}
+use Rattle.hll_expressions.specs.declared.faults.StaticFault.{StaticFault}
+use Rattle.hll_expressions.specs.Answers.{IsFaultAt}
+use Rattle.hll_expressions.specs.Things.{declared_names, IsAdded}
 use Rattle.hll_types.specs.Declaring.{IsAfter, variables_faults, with_kinds}
-use Rattle.hll_types.proofs.FirstFaults.{fault_front, fault_behind, fault_same, none_both}
+use Rattle.hll_expressions.proofs.FirstFaults.{fault_front, fault_behind, fault_same, none_both}
 use Rattle.hll_types.proofs.FreshNames.{fresh_append, new_name, taken_append}
 use Rattle.hll_types.proofs.PassSteps.{after_variables}
 use Rattle.hll_types.proofs.VariablesWalk.{variable_names, walk_append, declarators_same, cells_declared}

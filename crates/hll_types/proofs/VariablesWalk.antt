@@ -14,11 +14,11 @@ use Rattle.hll_meaning.specs.Names.{Names}
 use Rattle.hll_meaning.specs.Declarations.{is_among, written_kind, with_dims}
 use Rattle.hll_meaning.specs.Judging.{Fault, fault_if}
 use Rattle.hll_meaning.specs.StaticRules.{declaring, fresh_name, taken_by, dims_faults, is_large, declarators_faults}
-use Rattle.hll_types.specs.declared.fault.StaticFault.{StaticFault}
-use Rattle.hll_types.specs.declared.fault.StaticFault.TheVariants as answer
-use Rattle.hll_types.specs.Answers.{IsFaultAt}
+use Rattle.hll_expressions.specs.declared.faults.StaticFault.{StaticFault}
+use Rattle.hll_expressions.specs.declared.faults.StaticFault.TheVariants as answer
+use Rattle.hll_expressions.specs.Answers.{IsFaultAt}
 use Rattle.hll_types.specs.Declaring.{variable_faults, variables_faults}
-use Rattle.hll_types.proofs.FirstFaults.{fault_front, fault_behind, fault_same, none_both}
+use Rattle.hll_expressions.proofs.FirstFaults.{fault_front, fault_behind, fault_same, none_both}
 use Rattle.hll_types.proofs.FreshNames.{AreAmong, among_append, among_more, among_moved, fresh_alike}
 
 -- ---- a name that is new to both

@@ -15,25 +15,10 @@ use Rattle.hll_meaning.proofs.Faultless.{empty_parts, first_empty}
 use Rattle.hll_meaning.proofs.FineNames.{further_on, constant_said}
 use Rattle.hll_meaning.proofs.Scenes.{by_test, under_here, under_further}
 use Rattle.hll_types.specs.Written.{said_size, arrays, said_dims, signed_kind, unsigned_kind, said_written}
+use Rattle.hll_expressions.proofs.ByName.{under_front, under_back}
 use Rattle.hll_types.proofs.Lookups.{place, LookAlike, judged_alike}
 
 -- ---- looking up
-
--- what is found in front is found
-pub under_front : {A : Type 0} (n : List ℕ) (xs ys : List (List ℕ × A)) (a : A) → under n xs ≡ Some a → under n (xs ++ ys) ≡ Some a
-under_front n [] ys a is = absurd (cc is)
-under_front n ((own, b) ∷ xs) ys a is =
-    by_test (bytes_eq own n)
-    (λ same. under_here n own b (xs ++ ys) same ∙ sym (under_here n own b xs same) ∙ is)
-    (λ other. under_further n own b (xs ++ ys) other ∙ under_front n xs ys a (sym (under_further n own b xs other) ∙ is))
-
--- what isn't found in front is found behind
-pub under_back : {A : Type 0} (n : List ℕ) (xs ys : List (List ℕ × A)) → under n xs ≡ None → under n (xs ++ ys) ≡ under n ys
-under_back n [] ys is = refl
-under_back n ((own, b) ∷ xs) ys is =
-    by_test (bytes_eq own n)
-    (λ same. let found : Some b ≡ None = sym (under_here n own b xs same) ∙ is in absurd (cc found))
-    (λ other. under_further n own b (xs ++ ys) other ∙ under_back n xs ys (sym (under_further n own b xs other) ∙ is))
 
 -- names that look alike behind the same ones look alike
 pub alike_behind : (xs ys zs : Names) → LookAlike ys zs → LookAlike (xs ++ ys) (xs ++ zs)

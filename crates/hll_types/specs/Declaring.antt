@@ -24,19 +24,20 @@ use Rattle.hll_meaning.specs.Judging.{Fault, fault_if, wants_truth, wants_whole,
 use Rattle.hll_meaning.specs.Declarations.{Item, items_in, is_among, with_dims, declared_kind, field_kinds, element_table, constant_number, names}
 use Rattle.hll_meaning.specs.StaticRules.{Pass1, declaring, fresh, fresh_name, taken_by, written_faults, dims_faults, is_large, fields_faults, wants_constant, item_faults, pass1_item, pass1, pass1_faults, early_in, early, children_of}
 use Rattle.hll_types.specs.declared.declare.Declared.{Declared}
-use Rattle.hll_types.specs.declared.fault.StaticFault.{StaticFault}
-use Rattle.hll_types.specs.declared.fault.StaticFault.TheVariants as answer
-use Rattle.hll_types.specs.declared.given.Given.{Given}
+use Rattle.hll_expressions.specs.declared.faults.StaticFault.{StaticFault}
+use Rattle.hll_expressions.specs.declared.faults.StaticFault.TheVariants as answer
+use Rattle.hll_expressions.specs.declared.given.Given.{Given}
 use Rattle.hll_types.specs.declared.measure.Measure.{Measure}
 use Rattle.hll_types.specs.declared.sorts.Sort.{Sort}
-use Rattle.hll_types.specs.declared.things.Thing.{Thing}
-use Rattle.hll_types.specs.declared.things.Things.{Things}
-use Rattle.hll_types.specs.Answers.{IsFaultAt}
-use Rattle.hll_types.specs.Described.{known, number_of}
+use Rattle.hll_expressions.specs.declared.things.Thing.{Thing}
+use Rattle.hll_expressions.specs.declared.things.Things.{Things}
+use Rattle.hll_expressions.specs.Answers.{IsFaultAt}
+use Rattle.hll_expressions.specs.Described.{known, number_of}
 use Rattle.hll_types.specs.Measures.{kind_measure, field_kinds_of}
 use Rattle.hll_types.specs.Sorting.{codes_of_count}
-use Rattle.hll_types.specs.Standing.{declared_names, Stand, IsAdded, AreSorts}
-use Rattle.hll_types.specs.Things.{names_of, said_of}
+use Rattle.hll_types.specs.Standing.{Stand, AreSorts}
+use Rattle.hll_expressions.specs.Things.{declared_names, IsAdded}
+use Rattle.hll_expressions.specs.Things.{names_of, said_of}
 
 -- ---- items
 
@@ -186,4 +187,4 @@ IsPassed m result = MatchResult result (λ d. IsAfter d (pass1 m) (early m)) (Is
 abbrev pub IsSettled : Things → List (List ℕ × Sort) → Result Things StaticFault → Type 0
 IsSettled old sorts result =
     (m : HllModel) → pass1_faults m ≡ [] → declared_names old ≡ (pass1 m).names → AreSorts sorts (pass1 m).types (flat_map children_of (pass1 m).types) →
-    MatchResult result (λ t. names_of t ≡ names m) (λ wrong. wrong ≡ answer.Memory)
+    MatchResult result (λ t. (names_of t ≡ names m) × (declared_names t ≡ names m)) (λ wrong. wrong ≡ answer.Memory)

@@ -19,10 +19,11 @@ use Rattle.hll_meaning.specs.Judging.{Fault, fault_if, Context, judged, wants_tr
 use Rattle.hll_meaning.specs.StaticRules.{part_kind, is_complete, is_first, is_next, clashes, definitions_of, is_repeated, Left, part_expressions, asking, defined_faults, definition_faults, Asked, defines, asked_in, Pass2, pass2_item, variable_faults}
 use Rattle.hll_types.specs.declared.define.Defined.{Defined}
 use Rattle.hll_types.specs.declared.define.Parts.{Parts}
-use Rattle.hll_types.specs.declared.fault.StaticFault.{StaticFault}
-use Rattle.hll_types.specs.declared.scope.Index.{Index}
-use Rattle.hll_types.specs.Answers.{IsFaultAt}
-use Rattle.hll_types.specs.Scopes.{index_names}
+use Rattle.hll_expressions.specs.declared.faults.StaticFault.{StaticFault}
+use Rattle.hll_expressions.specs.declared.scope.Index.{Index}
+use Rattle.hll_expressions.specs.Answers.{IsFaultAt}
+use Rattle.hll_expressions.specs.Scopes.{index_names}
+use Rattle.hll_types.specs.Checked.{is_memory}
 
 -- ---- parts
 
@@ -31,6 +32,7 @@ pub record HasParts (own : List Def) (p : Parts) : Type 0 where
   pub whole : p.whole ≡ list_any (λ d. is_complete (part_kind d.part)) own
   pub first : p.first ≡ list_any (λ d. is_first (part_kind d.part)) own
   pub next : p.next ≡ option_map (λ d. d.at) (find (λ d. is_next (part_kind d.part)) own)
+  pub memory : p.memory ≡ list_any (λ d. is_memory (part_kind d.part)) own
 
 -- whether one of these definitions clashes with a part
 abbrev pub clashes_with : List Def → Part → Bool
@@ -38,7 +40,7 @@ clashes_with own p = list_any (λ d. clashes (part_kind d.part) (part_kind p)) o
 
 -- no parts
 abbrev pub no_parts : Parts
-no_parts = record { whole = false; first = false; next = None }
+no_parts = record { whole = false; first = false; next = None; memory = false }
 
 -- the parts that are kept under a name
 abbrev pub parts_under : Defined → List ℕ → Parts

@@ -9,10 +9,10 @@ use Rattle.hll_tree.specs.declared.tree.TypeItem.{TypeItem}
 use Rattle.hll_meaning.specs.Names.{Names, under}
 use Rattle.hll_meaning.specs.Declarations.{texts, is_among, element_table, elements_under}
 use Rattle.hll_meaning.specs.StaticRules.{declaring, sort_of, children_of, child_faults, children_faults}
-use Rattle.hll_types.specs.declared.fault.StaticFault.{StaticFault}
+use Rattle.hll_expressions.specs.declared.faults.StaticFault.{StaticFault}
 use Rattle.hll_types.specs.declared.sorts.Sort.{Sort}
-use Rattle.hll_types.specs.declared.things.Things.{Things}
-use Rattle.hll_types.specs.Answers.{IsFaultAt}
+use Rattle.hll_expressions.specs.declared.things.Things.{Things}
+use Rattle.hll_expressions.specs.Answers.{IsFaultAt}
 use Rattle.hll_types.specs.Standing.{Stand, is_sort_in, is_joined_in, AreSorts}
 
 -- the codes of so many elements

@@ -12,32 +12,17 @@ use Rattle.hll_meaning.specs.Types.{kind_of}
 use Rattle.hll_meaning.specs.Soundness.{AreFine}
 use Rattle.hll_meaning.specs.Declarations.{is_among, written_kind, with_dims, element_table, elements_under, root_of}
 use Rattle.hll_meaning.specs.StaticRules.{declaring, written_faults, dims_faults, sort_of}
-use Rattle.hll_types.specs.declared.fault.StaticFault.{StaticFault}
+use Rattle.hll_expressions.specs.declared.faults.StaticFault.{StaticFault}
 use Rattle.hll_types.specs.declared.sorts.Sort.{Sort}
-use Rattle.hll_types.specs.declared.things.Things.{Things}
-use Rattle.hll_types.specs.Answers.{IsFaultAt}
-use Rattle.hll_types.specs.Things.{said_of}
-
--- ---- names
-
--- the names that are declared
-abbrev pub declared_names : Things → Names
-declared_names t = map (λ e. (e.0.items, said_of e.1)) t.declared.entries
-
--- those that stand further on
-abbrev pub names_further : Things → Names
-names_further t = map (λ name. (name.items, later)) t.further.keys
+use Rattle.hll_expressions.specs.declared.things.Things.{Things}
+use Rattle.hll_expressions.specs.Answers.{IsFaultAt}
+use Rattle.hll_expressions.specs.Things.{declared_names, names_further}
 
 -- these names are declared, and are fine, and variables and elements of these names stand further on
 pub record Stand (t : Things) (names : Names) (further : List (List ℕ)) : Type 0 where
   pub declared : declared_names t ≡ names
   pub behind : (n : List ℕ) → under n (names_further t) ≡ under n (map (λ m. (m, later)) further)
   pub fine : AreFine names
-
--- a name is added behind those that are declared
-pub record IsAdded (old new : Things) (names : Names) : Type 0 where
-  pub declared : declared_names new ≡ names
-  pub further : names_further new ≡ names_further old
 
 -- ---- types
 

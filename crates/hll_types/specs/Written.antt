@@ -13,10 +13,10 @@ use Rattle.hll_meaning.specs.Values.{number}
 use Rattle.hll_meaning.specs.Judging.{Context, Judged, judged, from_to, wants_whole}
 use Rattle.hll_meaning.specs.Declarations.{kind_of_thing}
 use Rattle.hll_meaning.specs.StaticRules.{size_faults, dim_faults, type_name_faults, written_faults, dims_faults}
-use Rattle.hll_types.specs.declared.fault.StaticFault.{StaticFault}
-use Rattle.hll_types.specs.declared.given.Given.{Given}
-use Rattle.hll_types.specs.Answers.{IsFaultAt}
-use Rattle.hll_types.specs.Described.{Describes}
+use Rattle.hll_expressions.specs.declared.faults.StaticFault.{StaticFault}
+use Rattle.hll_expressions.specs.declared.given.Given.{Given}
+use Rattle.hll_expressions.specs.Answers.{IsFaultAt}
+use Rattle.hll_expressions.specs.Described.{Describes}
 
 -- the size that is said of a constant
 abbrev pub said_size : Context → Expr → ℕ

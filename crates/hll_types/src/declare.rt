@@ -7,24 +7,22 @@ ghost use Rattle.hll_meaning.specs.Declarations.{a_constant, a_type, is_among, i
 ghost use Rattle.hll_meaning.specs.Names.{Names};
 ghost use Rattle.hll_meaning.specs.StaticRules.{elements_of, fresh_name, taken_by};
 ghost use Rattle.hll_meaning.specs.Types.{kind_of};
-ghost use Rattle.hll_types.specs.declared.fault.StaticFault.TheVariants.{Memory};
-ghost use Rattle.hll_types.specs.Answers.{IsJudged};
+ghost use Rattle.hll_expressions.specs.declared.faults.StaticFault.TheVariants.{Memory};
+ghost use Rattle.hll_expressions.specs.Answers.{IsJudged};
 ghost use Rattle.hll_types.specs.Declaring.{AreAllDeclared, AreDeclared, AreElements, AreExpected, AreFields, AreVariables, Declares, IsConstant, IsField, IsVariable, IsPassed, IsTruthValue, IsWholeNumber, SortIsDeclared, IsAfter, early_in_section, start};
-ghost use Rattle.hll_types.specs.Described.{number_of};
-ghost use Rattle.hll_types.specs.Scopes.{context};
-ghost use Rattle.hll_types.specs.Standing.{declared_names, IsAdded, IsKindWithDims, IsKindWritten, Stand};
-ghost use Rattle.hll_types.specs.Things.{names_of, said_of};
+ghost use Rattle.hll_expressions.specs.Described.{number_of};
+ghost use Rattle.hll_expressions.specs.Scopes.{context};
+ghost use Rattle.hll_types.specs.Standing.{IsKindWithDims, IsKindWritten, Stand};
+ghost use Rattle.hll_expressions.specs.Things.{declared_names, IsAdded};
+ghost use Rattle.hll_expressions.specs.Things.{names_of, said_of};
 
-use crate::fault::{StaticFault, push, refuse_if};
-use crate::given::{Given, truth, whole};
-use crate::judge::judge;
 use crate::measure::{MOST_CELLS, Measure, measure_of};
-use crate::narrow::Narrow;
-use crate::scope::{Bounds, Scope};
 use crate::seen::Seen;
 use crate::sorts::{Sorts, codes};
-use crate::things::{Thing, Things};
 use crate::written::{with_dims, written};
+use hll_expressions::{
+    Bounds, Given, Narrow, Scope, StaticFault, Thing, Things, judge, push, refuse_if, truth, whole,
+};
 use hll_lexer::Word;
 use hll_meaning::{FieldTy, StaticKind, Ty};
 use hll_tree::{

@@ -8,18 +8,17 @@ ghost use Rattle.hll_meaning.specs.Judging.{from_to, judged};
 ghost use Rattle.hll_meaning.specs.Kinds.{whole};
 ghost use Rattle.hll_meaning.specs.StaticRules.{asked_in, asking as asking_context, declared_in, variable_faults, with_slot};
 ghost use Rattle.hll_meaning.specs.Types.{kind_of};
-ghost use Rattle.hll_types.specs.declared.fault.StaticFault.TheVariants.{Memory};
-ghost use Rattle.hll_types.specs.Answers.{IsJudged};
+ghost use Rattle.hll_expressions.specs.declared.faults.StaticFault.TheVariants.{Memory};
+ghost use Rattle.hll_expressions.specs.Answers.{IsJudged};
 ghost use Rattle.hll_types.specs.Defining.{clashes_with, declarator_faults, demand_faults, left_of, no_parts, part_faults, parts_under, AreAsked, AreDefinitions, HasParts, IsAsked, IsDefined, IsDefinition, IsKept, IsLeft, Keeps};
-ghost use Rattle.hll_types.specs.Scopes.{context, index_names};
-ghost use Rattle.hll_types.specs.Things.{names_of};
+ghost use Rattle.hll_expressions.specs.Scopes.{context, index_names};
+ghost use Rattle.hll_expressions.specs.Things.{names_of};
 ghost use Rattle.hll_tree.specs.declared.tree.Def.{Def};
 
-use crate::fault::{StaticFault, fault, push, refuse_if};
-use crate::given::{fit, truth};
-use crate::judge::judge;
-use crate::scope::{Bounds, Index, Scope};
-use crate::things::{Found, Thing, Things};
+use hll_expressions::{
+    Bounds, Found, Index, Scope, StaticFault, Thing, Things, fault, fit, judge, push, refuse_if,
+    truth,
+};
 use hll_lexer::Word;
 use hll_meaning::{StaticKind, Ty};
 use hll_tree::{Decl, Declarator, Def, Expr, HllModel, Name, Part, Section, Slot};
@@ -35,6 +34,8 @@ pub struct Parts {
     pub first: bool,
     /// The place of the part for the next instant.
     pub next: Option<u64>,
+    /// Whether some part is that of the first or of the next instant.
+    pub memory: bool,
 }
 
 /// The variables that are defined so far, with their parts.
@@ -51,6 +52,7 @@ impl Parts {
             whole: false,
             first: false,
             next: None,
+            memory: false,
         }
     }
 
@@ -70,16 +72,23 @@ impl Parts {
         ensures { (own : List Def) → HasParts own self → clashes_with own def.now.part ≡ false → HasParts (own ++ def.now ∷ []) result }
     {
         match def.part {
-            Part::Value(_) | Part::Both(_, _) => Parts {
+            Part::Value(_) => Parts {
                 whole: true,
+                ..self
+            },
+            Part::Both(_, _) => Parts {
+                whole: true,
+                memory: true,
                 ..self
             },
             Part::First(_) => Parts {
                 first: true,
+                memory: true,
                 ..self
             },
             Part::Next(_) => Parts {
                 next: Some(def.at),
+                memory: true,
                 ..self
             },
         }
@@ -120,7 +129,7 @@ impl<'a> Defined<'a> {
 }
 
 /// The kind of what is defined: a variable that is no input.
-fn defined_kind<'a>(names: &'a Things, def: &Def) -> Result<&'a Ty, StaticFault>
+pub fn defined_kind<'a>(names: &'a Things, def: &Def) -> Result<&'a Ty, StaticFault>
     ensures { IsDefined (names_of names.now) def.now result }
 {
     match names.get(def.name.text.bytes()) {
@@ -138,7 +147,7 @@ fn defined_kind<'a>(names: &'a Things, def: &Def) -> Result<&'a Ty, StaticFault>
 }
 
 /// The index name of a level of so many places.
-#[tactic(auto, using(crate::proofs::KindForms::kind_of_int))]
+#[tactic(auto, using(hll_expressions::proofs::KindForms::kind_of_int))]
 fn index_of(alloc: Global, name: &Name, size: u64) -> Result<Index, StaticFault>
     ensures name { IfOk result (λ i. i.name ≡ name.now.text) }
     ensures kind { IfOk result (λ i. kind_of i.kind ≡ whole (from_to (pos 0) (pos size -ℤ pos 1))) }
@@ -195,7 +204,7 @@ fn level<'a>(
 }
 
 /// The left side of a definition; answers the kind of what it defines.
-fn left<'a>(
+pub fn left<'a>(
     alloc: Global,
     bound: &mut Vec<Index>,
     kind: &'a Ty,
@@ -239,7 +248,7 @@ fn given(scope: &Scope<'_>, kind: &Ty, part: &Part) -> Result<(), StaticFault>
 }
 
 /// Where an expression of a definition, a constraint or an obligation stands.
-fn asking<'a>(alloc: Global, names: &'a Things, bound: &'a [Index]) -> Scope<'a>
+pub fn asking<'a>(alloc: Global, names: &'a Things, bound: &'a [Index]) -> Scope<'a>
     ensures { context result ≡ asking_context (names_of names.now) (index_names bound.now) }
 {
     Scope {

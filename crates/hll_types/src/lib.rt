@@ -2,25 +2,21 @@
 
 #![tactic(auto)]
 
-mod choice;
+mod checked;
 mod declare;
 mod define;
-mod fault;
-mod given;
-mod join;
-mod judge;
+mod elements;
 mod measure;
-mod narrow;
-mod numbers;
-mod operators;
 mod passes;
-mod paths;
-mod scope;
+mod range_table;
+mod ranges;
 mod seen;
 mod settle;
 mod sorts;
-mod things;
+mod tables;
+mod variables;
 mod written;
 
-pub use fault::StaticFault;
-pub use passes::check;
+pub use checked::{Checked, check};
+pub use hll_expressions::StaticFault;
+pub use variables::{Role, Variable};

@@ -49,7 +49,7 @@ fn measure_fields(fields: &[FieldTy]) -> Measure
 
 /// The measure of a type.
 #[cycle(measuring)]
-#[tactic(auto, using(crate::proofs::KindForms::kind_of_bool, crate::proofs::KindForms::kind_of_int, crate::proofs::KindForms::kind_of_elem))]
+#[tactic(auto, using(hll_expressions::proofs::KindForms::kind_of_bool, hll_expressions::proofs::KindForms::kind_of_int, hll_expressions::proofs::KindForms::kind_of_elem))]
 pub fn measure_of(ty: &Ty) -> Measure
     ensures { result ≡ kind_measure (kind_of ty.now) }
 {

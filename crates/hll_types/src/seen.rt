@@ -2,9 +2,9 @@
 
 ghost use Rattle.std.specs.Prelude.{◌≡◌, ◌∷◌, ◌++◌, [], MatchResult};
 ghost use Rattle.hll_meaning.specs.StaticRules.{fresh_name};
-ghost use Rattle.hll_types.specs.Answers.{IsFaultAt};
+ghost use Rattle.hll_expressions.specs.Answers.{IsFaultAt};
 
-use crate::fault::{StaticFault, refuse_if};
+use hll_expressions::{StaticFault, refuse_if};
 use hll_meaning::StaticKind;
 use hll_tree::Name;
 use indexmap::IndexSet;

@@ -4,15 +4,14 @@ ghost use Rattle.std.specs.Prelude.{◌≡◌, ◌-◌, ◌<◌, IfOk, IfErr, Ma
 ghost use Rattle.hll_meaning.specs.Kinds.{element};
 ghost use Rattle.hll_meaning.specs.Names.{code_in};
 ghost use Rattle.hll_meaning.specs.Types.{ends, kind_of};
-ghost use Rattle.hll_types.specs.declared.fault.StaticFault.TheVariants.{Memory};
+ghost use Rattle.hll_expressions.specs.declared.faults.StaticFault.TheVariants.{Memory};
 ghost use Rattle.hll_types.specs.Declaring.{IsSettled};
 ghost use Rattle.hll_types.specs.Measures.{field_kinds_of};
 ghost use Rattle.hll_types.specs.Settling.{AreRooted, IsRootedBy, fields_in, kind_in, root_in, thing_in};
-ghost use Rattle.hll_types.specs.Things.{said_of};
+ghost use Rattle.hll_expressions.specs.Things.{said_of};
 
-use crate::fault::{StaticFault, push};
 use crate::sorts::{Sort, Sorts};
-use crate::things::{Thing, Things};
+use hll_expressions::{StaticFault, Thing, Things, push};
 use hll_lexer::Word;
 use hll_meaning::{FieldTy, Ty};
 use intervals::Interval;

@@ -5,12 +5,11 @@ ghost use Rattle.std.specs.Str.{bytes_eq};
 ghost use Rattle.hll_meaning.specs.Names.{under};
 ghost use Rattle.hll_meaning.specs.Types.{ends};
 ghost use Rattle.indexmap.specs.IndexMap.{insert_entry};
-ghost use Rattle.hll_types.specs.declared.fault.StaticFault.TheVariants.{Memory};
-ghost use Rattle.hll_types.specs.Things.{thing_found};
+ghost use Rattle.hll_expressions.specs.declared.faults.StaticFault.TheVariants.{Memory};
+ghost use Rattle.hll_expressions.specs.Things.{thing_found};
 ghost use Rattle.hll_types.specs.Sorting.{codes_of_count, AreJoined, IsChildJoined};
 
-use crate::fault::{StaticFault, fault, refuse_if};
-use crate::things::{Found, Things};
+use hll_expressions::{Found, StaticFault, Things, fault, refuse_if};
 use hll_meaning::StaticKind;
 use hll_tree::Name;
 use indexmap::IndexMap;

@@ -4,16 +4,14 @@ ghost use Rattle.std.specs.Prelude.{◌≡◌, ◌≤◌, ◌-◌, ◌^◌, ◌-
 ghost use Rattle.hll_meaning.specs.Judging.{from_to, judged};
 ghost use Rattle.hll_meaning.specs.Names.{under};
 ghost use Rattle.hll_meaning.specs.Types.{ends, kind_of};
-ghost use Rattle.hll_types.specs.Described.{number_of};
-ghost use Rattle.hll_types.specs.Scopes.{context};
-ghost use Rattle.hll_types.specs.Things.{thing_found};
+ghost use Rattle.hll_expressions.specs.Described.{number_of};
+ghost use Rattle.hll_expressions.specs.Scopes.{context};
+ghost use Rattle.hll_expressions.specs.Things.{thing_found};
 ghost use Rattle.hll_types.specs.Written.{AreSizes, HasDims, IsDimension, IsNamed, IsNumber, IsSize, IsWritten};
 
-use crate::fault::{StaticFault, fault, push, refuse_if};
-use crate::given::{Given, whole};
-use crate::judge::{bounds, judge};
-use crate::scope::Scope;
-use crate::things::{Found, Thing};
+use hll_expressions::{
+    Found, Given, Scope, StaticFault, Thing, bounds, fault, judge, push, refuse_if, whole,
+};
 use hll_meaning::{StaticKind, Ty};
 use hll_tree::{Expr, TypeText};
 use intervals::Interval;
@@ -92,7 +90,7 @@ fn unsigned(digits: u32) -> Interval
 }
 
 /// A type as it is written, without dimensions.
-#[tactic(auto, using(crate::proofs::KindForms::kind_of_bool, crate::proofs::KindForms::kind_of_int))]
+#[tactic(auto, using(hll_expressions::proofs::KindForms::kind_of_bool, hll_expressions::proofs::KindForms::kind_of_int))]
 pub fn written(scope: &Scope<'_>, text: &TypeText) -> Result<Ty, StaticFault>
     requires { scope.now.needs_constant ≡ true }
     ensures { IsWritten (context scope.now) text.now result }
@@ -124,7 +122,7 @@ fn sizes(scope: &Scope<'_>, dims: &[Expr]) -> Result<Vec<u64>, StaticFault>
 }
 
 /// An array for each dimension, the first outermost.
-#[tactic(auto, using(crate::proofs::KindForms::kind_of_array, crate::proofs::DimsWalk::arrays_last))]
+#[tactic(auto, using(hll_expressions::proofs::KindForms::kind_of_array, crate::proofs::DimsWalk::arrays_last))]
 pub fn with_dims(scope: &Scope<'_>, each: Ty, dims: &[Expr]) -> Result<Ty, StaticFault>
     requires { scope.now.needs_constant ≡ true }
     ensures { HasDims (context scope.now) dims.now (kind_of each) result }

@@ -1,9 +1,7 @@
 //! Texts, each with its first static fault, if it has one: the kind, and the byte at which it stands.
 
-use hll_grammar::parse;
-use hll_lexer::tokens;
+use crate::models::model_of;
 use hll_meaning::StaticKind;
-use hll_tree::HllModel;
 use hll_types::{StaticFault, check};
 use std::alloc::Global;
 use std::test::Fail;
@@ -498,16 +496,10 @@ const TEXTS: &[(&[u8], Option<(StaticKind, u64)>)] = &[
     ),
 ];
 
-/// The tree of a text.
-fn model_of(alloc: Global, text: &[u8]) -> Result<HllModel, Fail> {
-    let tokens = tokens(alloc, text)?;
-    Ok(parse(alloc, text, &tokens)?)
-}
-
 /// The first static fault of a text.
 fn first_fault(alloc: Global, text: &[u8]) -> Result<Option<(StaticKind, u64)>, Fail> {
-    match check(alloc, &model_of(alloc, text)?) {
-        Ok(()) => Ok(None),
+    match check(alloc, model_of(alloc, text)?) {
+        Ok(_) => Ok(None),
         Err(StaticFault::Fault { kind, at }) => Ok(Some((kind, at))),
         Err(StaticFault::Memory) => Err(Fail::new("out of memory")),
     }

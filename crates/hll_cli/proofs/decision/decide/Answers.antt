@@ -1,11 +1,12 @@
-use Rattle.std.proofs.Common.{◌≤◌, length, map, sym, ap, ◌∙◌, arith, rules}
-use Rattle.std.proofs.lemmas.List.{length-map}
+use Rattle.std.proofs.Common.{◌≡◌, ◌≤◌, ℕ, List, length, sym, subst, ◌∙◌, rules}
+use Rattle.std.specs.List.{AllByRecursion}
+use Rattle.hll_tree.specs.declared.tree.HllModel.{HllModel}
+use Rattle.hll_meaning.specs.Runs.{obligations}
+use Rattle.hll_meaning.specs.StaticRules.{Well}
+use Rattle.hll_cli.specs.Accepted.{IsSpelled}
 use Rattle.hll_cli.specs.Texts.{IsMisspelled}
-use Rattle.hll_cli.proofs.Decisions.{too_long, other_form, too_many, asked_boolean, asked_declared, accepted_text, report_of, as_many}
-use Rattle.hll_cli.proofs.Refusals.{refused_alone}
 use Rattle.hll_cli.proofs.Unanswered.{misspelled_undecided}
 use Rattle.hll_cli.proofs.decision.decide.Goals as goal
-use Rattle.hll_cli.proofs.decision.decide.Goals.{then-spelled-gt-MAX_TOKENS-via-then-spelled-gt-MAX_TOKENS, then-spelled-gt-MAX_TOKENS-via-else-spelled-gt-MAX_TOKENS+then-not-is_built}
 
 pub returns-in_err-spelled-clause-refused : goal.returns-in_err-spelled-clause-refused
 returns-in_err-spelled-clause-refused c = λ r failed.
@@ -15,56 +16,22 @@ returns-in_err-spelled-clause-refused c = λ r failed.
 pub check_rules-requires : goal.check_rules-requires
 check_rules-requires c = c.in_ok-spelled.ensures.spelled.0
 
-pub returns-then-spelled-gt-MAX_TOKENS-clause-refused : goal.returns-then-spelled-gt-MAX_TOKENS-clause-refused
-returns-then-spelled-gt-MAX_TOKENS-clause-refused c = λ r failed.
-    let spelled = c.in_ok-spelled.ensures.spelled in
-    let only = c.in_ok-spelled.ensures.only in
-    let well = c.in_ok-check_rules.ensures.well in
-    refused_alone _ _ r failed
-    (elim c.then-spelled-gt-MAX_TOKENS.branch [
-      | then-spelled-gt-MAX_TOKENS-via-then-spelled-gt-MAX_TOKENS w ↦ too_long _ _ _ spelled only well w.if-spelled-gt-MAX_TOKENS.true
-      | then-spelled-gt-MAX_TOKENS-via-else-spelled-gt-MAX_TOKENS+then-not-is_built w ↦ other_form _ _ _ spelled only well (sym w.is_built.ensures ∙ w.if-not-is_built.true)
-    ])
+pub decide_model-requires-clause-spelled : goal.decide_model-requires-clause-spelled
+decide_model-requires-clause-spelled c =
+    let same = sym (c.model.ensures.is ∙ c.in_ok-checked.ensures.checked.0) in
+    subst (λ (m : HllModel). (is : IsSpelled c.args.text.now m) × (length is.tokens ≡ c.in_ok-spelled.spelled.tokens)) same c.in_ok-spelled.ensures.spelled
 
-pub returns-then-len-gt-MAX_INPUTS-clause-refused : goal.returns-then-len-gt-MAX_INPUTS-clause-refused
-returns-then-len-gt-MAX_INPUTS-clause-refused c = λ r failed.
-    refused_alone _ _ r failed
-    (too_many _ _ _ c.in_ok-spelled.ensures.spelled c.in_ok-spelled.ensures.only _ c.in_ok-names.ensures c.in_ok-check_rules.ensures.well
-    (let long = length-map c.in_ok-names.names.items (λ n. n.now) in let len = c.in_ok-names.names.ok.0 in omega (arith, c.len.ensures)))
+pub decide_model-requires-clause-only : goal.decide_model-requires-clause-only
+decide_model-requires-clause-only c =
+    let same = sym (c.model.ensures.is ∙ c.in_ok-checked.ensures.checked.0) in
+    subst (λ (m : HllModel). (other : HllModel) (is : IsSpelled c.args.text.now other) → (other ≡ m) × (length is.tokens ≡ c.in_ok-spelled.spelled.tokens)) same c.in_ok-spelled.ensures.only
 
-pub verdicts-requires-clause-boolean : goal.verdicts-requires-clause-boolean
-verdicts-requires-clause-boolean c =
-    rw c.deref-2.ensures.value
-    (asked_boolean _ c.in_ok-spelled.spelled.model _ c.in_ok-spelled.ensures.spelled c.in_ok-spelled.ensures.only _ c.in_ok-names.ensures (sym c.is_built.ensures ∙ c.if-not-is_built.false) _ c.in_ok-obligations.ensures)
+pub decide_model-requires-clause-places : goal.decide_model-requires-clause-places
+decide_model-requires-clause-places c =
+    let same = sym (c.model.ensures.is ∙ c.in_ok-checked.ensures.checked.0) in
+    subst (λ (m : HllModel). AllByRecursion (λ e. e.at ≤ length c.args.text.now) (obligations m)) same c.in_ok-spelled.ensures.places
 
-pub verdicts-requires-clause-declared : goal.verdicts-requires-clause-declared
-verdicts-requires-clause-declared c =
-    rw (c.deref.ensures.value, c.deref-2.ensures.value)
-    (asked_declared _ c.in_ok-spelled.spelled.model _ c.in_ok-spelled.ensures.spelled c.in_ok-spelled.ensures.only _ c.in_ok-names.ensures (sym c.is_built.ensures ∙ c.if-not-is_built.false)
-    c.in_ok-check_rules.ensures.well _ c.in_ok-obligations.ensures)
-
-pub report-requires-clause-within : goal.report-requires-clause-within
-report-requires-clause-within c = rw (c.deref-4.ensures.value, c.in_ok-obligations.ensures) c.in_ok-spelled.ensures.places
-
-pub report-requires-clause-same : goal.report-requires-clause-same
-report-requires-clause-same c =
-    let decided = rw (c.deref.ensures.value, c.deref-2.ensures.value) at c.in_ok-verdicts.ensures in
-    let es = map (λ e. e.now) c.in_ok-obligations.obligations.items in
-    ap length c.deref-4.ensures.value ∙ sym {a = length es} (length-map c.in_ok-obligations.obligations.items (λ e. e.now))
-    ∙ as_many (map (λ n. n.now) c.in_ok-names.names.items) es c.in_ok-verdicts.verdicts decided ∙ ap length (sym c.as_slice.ensures)
-
-pub returns-clause-report : goal.returns-clause-report
-returns-clause-report c =
-    let decided = rw (c.deref.ensures.value, c.deref-2.ensures.value) at c.in_ok-verdicts.ensures in
-    let long = length-map c.in_ok-names.names.items (λ n. n.now) in
-    let len = c.in_ok-names.names.ok.0 in
-    let few : length (map (λ n. n.now) c.in_ok-names.names.items) ≤ 12 = omega (arith, c.len.ensures) in
-    let m = c.in_ok-spelled.spelled.model in
-    let spelled = c.in_ok-spelled.ensures.spelled in
-    let only = c.in_ok-spelled.ensures.only in
-    let are = c.in_ok-names.ensures in
-    let built = sym c.is_built.ensures ∙ c.if-not-is_built.false in
-    let accepted = accepted_text c.args.text.now m _ spelled only _ are c.if-spelled-gt-MAX_TOKENS.false c.in_ok-check_rules.ensures.well built few in
-    report_of c.args.text.now m _ spelled only _ are accepted _ c.in_ok-verdicts.verdicts c.in_ok-output.output.items c.any_falsified-falsified.result c.in_ok-obligations.ensures decided
-    (rw (c.deref-3.ensures.value, c.deref-4.ensures.value, c.as_slice.ensures) at c.in_ok-output.ensures)
-    (rw c.as_slice-2.ensures at c.any_falsified-falsified.ensures)
+pub decide_model-requires-clause-well : goal.decide_model-requires-clause-well
+decide_model-requires-clause-well c =
+    let same = sym (c.model.ensures.is ∙ c.in_ok-checked.ensures.checked.0) in
+    subst Well same c.in_ok-checked.ensures.checked.1

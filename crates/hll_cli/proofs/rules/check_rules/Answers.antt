@@ -4,5 +4,5 @@ use Rattle.hll_cli.proofs.rules.check_rules.Goals as goal
 
 pub returns-in-Err-Fault-clause-refused : goal.returns-in-Err-Fault-clause-refused
 returns-in-Err-Fault-clause-refused c = λ r failed.
-    refused_alone {T = Unit {0}} c.args.text.now _ r (rw c.faulty.ensures at failed)
-    (record { model = c.args.model.now; spelled = c.requires; at = c.in-Err-Fault.at; first = rw c.in-Err-Fault.field-0-is at c.in-Err-Fault.ensures; placed = refl })
+    refused_alone c.args.text.now _ r (rw c.faulty.ensures at failed)
+    (record { model = c.args.model; spelled = c.requires; at = c.in-Err-Fault.at; first = rw c.in-Err-Fault.field-0-is at c.in-Err-Fault.ensures; placed = refl })

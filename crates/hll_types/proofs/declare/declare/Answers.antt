@@ -3,7 +3,7 @@ use Rattle.std.specs.List.{flat_map}
 use Rattle.std.proofs.lemmas.List.{take_more, take_all}
 use Rattle.std.proofs.lemmas.Result.{err_from_is_err_and}
 use Rattle.hll_meaning.specs.StaticRules.{Pass1, pass1_faults, early}
-use Rattle.hll_types.specs.Answers.{IsFaultAt}
+use Rattle.hll_expressions.specs.Answers.{IsFaultAt}
 use Rattle.hll_types.specs.Declaring.{IsAfter, early_in_section, start}
 use Rattle.hll_types.proofs.ExpectWalk.{lists_behind}
 use Rattle.hll_types.proofs.PassWalk.{early_sections, fault_of_section, sections_more}

@@ -1,10 +1,10 @@
 use Rattle.std.proofs.Common.{List, inl, inr, ap, subst}
 use Rattle.std.specs.List.{flat_map}
 use Rattle.hll_tree.specs.declared.tree.Def.{Def}
-use Rattle.hll_types.specs.Answers.{IsJudged}
+use Rattle.hll_expressions.specs.Answers.{IsJudged}
 use Rattle.hll_types.specs.Defining.{demand_faults, AreDefinitions}
-use Rattle.hll_types.specs.Things.{names_of}
-use Rattle.hll_types.proofs.FaultFolds.{same_judged}
+use Rattle.hll_expressions.specs.Things.{names_of}
+use Rattle.hll_expressions.proofs.FaultFolds.{same_judged}
 use Rattle.hll_types.proofs.PassFolds.{ask_definitions, ask_constraints, ask_obligations}
 use Rattle.hll_types.proofs.define.ask.Goals as goal
 

@@ -1,9 +1,9 @@
 use Rattle.std.proofs.Common.{not, sym, ap, subst, ◌∙◌}
 use Rattle.hll_meaning.specs.StaticRules.{definitions_of, variable_faults}
-use Rattle.hll_types.specs.Answers.{IsFaultAt}
+use Rattle.hll_expressions.specs.Answers.{IsFaultAt}
 use Rattle.hll_meaning.specs.declared.fault.StaticKind.TheVariants.{FirstMissing}
 use Rattle.hll_types.specs.Defining.{HasParts, parts_under}
-use Rattle.hll_types.proofs.FaultFolds.{refused}
+use Rattle.hll_expressions.proofs.FaultFolds.{refused}
 use Rattle.hll_types.proofs.CompleteVariables.{complete_whole, complete_undefined, complete_next}
 use Rattle.hll_types.proofs.define.complete.Goals as goal
 

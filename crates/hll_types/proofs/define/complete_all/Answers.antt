@@ -3,9 +3,9 @@ use Rattle.std.specs.List.{flat_map}
 use Rattle.std.proofs.lemmas.List.{take_all}
 use Rattle.hll_tree.specs.declared.tree.Section.{Section}
 use Rattle.hll_meaning.specs.StaticRules.{declared_in, variable_faults}
-use Rattle.hll_types.specs.Answers.{IsFaultAt}
-use Rattle.hll_types.proofs.Firsts.{none_more, first_at}
-use Rattle.hll_types.proofs.FaultFolds.{handed, same_faults}
+use Rattle.hll_expressions.specs.Answers.{IsFaultAt}
+use Rattle.hll_expressions.proofs.Firsts.{none_more, first_at}
+use Rattle.hll_expressions.proofs.FaultFolds.{handed, same_faults}
 use Rattle.hll_types.proofs.PassFolds.{complete_sections}
 use Rattle.hll_types.proofs.define.complete_all.Goals as goal
 

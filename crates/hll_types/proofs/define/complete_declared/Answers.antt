@@ -2,10 +2,10 @@ use Rattle.std.proofs.Common.{sym, ap, ◌∙◌}
 use Rattle.std.specs.List.{flat_map}
 use Rattle.std.proofs.lemmas.List.{take_all}
 use Rattle.hll_tree.specs.declared.tree.Decl.{Decl}
-use Rattle.hll_types.specs.Answers.{IsFaultAt}
+use Rattle.hll_expressions.specs.Answers.{IsFaultAt}
 use Rattle.hll_types.specs.Defining.{declarator_faults}
-use Rattle.hll_types.proofs.Firsts.{none_more, first_at}
-use Rattle.hll_types.proofs.FaultFolds.{handed, same_faults}
+use Rattle.hll_expressions.proofs.Firsts.{none_more, first_at}
+use Rattle.hll_expressions.proofs.FaultFolds.{handed, same_faults}
 use Rattle.hll_types.proofs.define.complete_declared.Goals as goal
 
 pub loop-decl-preserved : goal.loop-decl-preserved

@@ -2,10 +2,10 @@ use Rattle.std.proofs.Common.{sym, ap, ◌∙◌}
 use Rattle.std.proofs.lemmas.List.{take_all}
 use Rattle.hll_tree.specs.declared.tree.Declarator.{Declarator}
 use Rattle.hll_meaning.specs.StaticRules.{variable_faults}
-use Rattle.hll_types.specs.Answers.{IsFaultAt}
+use Rattle.hll_expressions.specs.Answers.{IsFaultAt}
 use Rattle.hll_types.specs.Defining.{declarator_faults}
-use Rattle.hll_types.proofs.Firsts.{none_more, first_at}
-use Rattle.hll_types.proofs.FaultFolds.{handed}
+use Rattle.hll_expressions.proofs.Firsts.{none_more, first_at}
+use Rattle.hll_expressions.proofs.FaultFolds.{handed}
 use Rattle.hll_types.proofs.define.complete_each.Goals as goal
 
 pub loop-declarator-preserved : goal.loop-declarator-preserved

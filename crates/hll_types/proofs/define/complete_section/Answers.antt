@@ -2,7 +2,7 @@ use Rattle.std.proofs.Common.{ap}
 use Rattle.std.specs.List.{flat_map}
 use Rattle.hll_tree.specs.declared.tree.Decl.{Decl}
 use Rattle.hll_types.specs.Defining.{declarator_faults}
-use Rattle.hll_types.proofs.FaultFolds.{same_judged}
+use Rattle.hll_expressions.proofs.FaultFolds.{same_judged}
 use Rattle.hll_types.proofs.PassFolds.{complete_declarations}
 use Rattle.hll_types.proofs.define.complete_section.Goals as goal
 

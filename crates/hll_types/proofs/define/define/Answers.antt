@@ -1,8 +1,8 @@
 use Rattle.std.proofs.Common.{refl}
-use Rattle.hll_types.specs.Answers.{IsFaultAt}
+use Rattle.hll_expressions.specs.Answers.{IsFaultAt}
 use Rattle.hll_types.specs.Defining.{pass2}
-use Rattle.hll_types.specs.Things.{names_of}
-use Rattle.hll_types.proofs.FaultFolds.{handed}
+use Rattle.hll_expressions.specs.Things.{names_of}
+use Rattle.hll_expressions.proofs.FaultFolds.{handed}
 use Rattle.hll_types.proofs.PassFolds.{sections_more, sections_fail, sections_done}
 use Rattle.hll_types.proofs.define.define.Goals as goal
 

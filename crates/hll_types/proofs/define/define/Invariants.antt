@@ -1,6 +1,6 @@
 use Rattle.std.proofs.Common.{fold, take}
 use Rattle.hll_types.specs.Defining.{IsAfter}
-use Rattle.hll_types.specs.Things.{names_of}
+use Rattle.hll_expressions.specs.Things.{names_of}
 use Rattle.hll_types.proofs.PassFolds.{with_section, at_first}
 use Rattle.hll_types.proofs.define.define.Given as goal
 

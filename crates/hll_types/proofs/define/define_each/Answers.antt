@@ -1,8 +1,8 @@
 use Rattle.std.proofs.Common.{fold}
-use Rattle.hll_types.specs.Answers.{IsFaultAt}
+use Rattle.hll_expressions.specs.Answers.{IsFaultAt}
 use Rattle.hll_types.specs.Defining.{with_definition}
-use Rattle.hll_types.specs.Things.{names_of}
-use Rattle.hll_types.proofs.FaultFolds.{handed}
+use Rattle.hll_expressions.specs.Things.{names_of}
+use Rattle.hll_expressions.proofs.FaultFolds.{handed}
 use Rattle.hll_types.proofs.PassFolds.{definitions_more, definitions_fail, definitions_done}
 use Rattle.hll_types.proofs.define.define_each.Goals as goal
 

@@ -1,10 +1,10 @@
 use Rattle.std.proofs.Common.{List, ap, ◌∙◌}
-use Rattle.hll_types.specs.Answers.{IsFaultAt}
-use Rattle.hll_types.specs.declared.scope.Index.{Index}
-use Rattle.hll_types.specs.Scopes.{context, index_names}
-use Rattle.hll_types.specs.Things.{names_of}
+use Rattle.hll_expressions.specs.Answers.{IsFaultAt}
+use Rattle.hll_expressions.specs.declared.scope.Index.{Index}
+use Rattle.hll_expressions.specs.Scopes.{context, index_names}
+use Rattle.hll_expressions.specs.Things.{names_of}
 use Rattle.hll_meaning.specs.StaticRules.{asking, definition_faults}
-use Rattle.hll_types.proofs.FaultFolds.{handed}
+use Rattle.hll_expressions.proofs.FaultFolds.{handed}
 use Rattle.hll_types.proofs.DefinitionSteps.{twice_first, kind_first, left_first, given_ends}
 use Rattle.hll_types.proofs.define.definition.Goals as goal
 

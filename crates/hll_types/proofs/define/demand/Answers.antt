@@ -1,8 +1,8 @@
-use Rattle.hll_types.specs.Answers.{IsFaultAt}
+use Rattle.hll_expressions.specs.Answers.{IsFaultAt}
 use Rattle.hll_types.specs.Defining.{demand_faults}
-use Rattle.hll_types.specs.Scopes.{context}
-use Rattle.hll_types.specs.Things.{names_of}
-use Rattle.hll_types.proofs.FaultFolds.{handed}
+use Rattle.hll_expressions.specs.Scopes.{context}
+use Rattle.hll_expressions.specs.Things.{names_of}
+use Rattle.hll_expressions.proofs.FaultFolds.{handed}
 use Rattle.hll_types.proofs.DefinitionSteps.{demand_first, demand_ends}
 use Rattle.hll_types.proofs.define.demand.Goals as goal
 

@@ -1,11 +1,11 @@
 use Rattle.std.proofs.Common.{sym, ap, ◌∙◌}
 use Rattle.std.specs.List.{flat_map}
 use Rattle.std.proofs.lemmas.List.{take_all}
-use Rattle.hll_types.specs.Answers.{IsFaultAt}
+use Rattle.hll_expressions.specs.Answers.{IsFaultAt}
 use Rattle.hll_types.specs.Defining.{demand_faults}
-use Rattle.hll_types.specs.Things.{names_of}
-use Rattle.hll_types.proofs.Firsts.{none_more, first_at}
-use Rattle.hll_types.proofs.FaultFolds.{handed}
+use Rattle.hll_expressions.specs.Things.{names_of}
+use Rattle.hll_expressions.proofs.Firsts.{none_more, first_at}
+use Rattle.hll_expressions.proofs.FaultFolds.{handed}
 use Rattle.hll_types.proofs.define.demand_each.Goals as goal
 
 pub loop-expr-preserved : goal.loop-expr-preserved

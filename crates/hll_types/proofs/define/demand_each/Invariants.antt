@@ -1,7 +1,7 @@
 use Rattle.std.proofs.Common.{◌≡◌, [], take}
 use Rattle.std.specs.List.{flat_map}
 use Rattle.hll_types.specs.Defining.{demand_faults}
-use Rattle.hll_types.specs.Things.{names_of}
+use Rattle.hll_expressions.specs.Things.{names_of}
 use Rattle.hll_types.proofs.define.demand_each.Given as goal
 
 abbrev pub invariant-loop-expr : goal.invariant-loop-expr

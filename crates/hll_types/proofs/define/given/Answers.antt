@@ -1,5 +1,5 @@
 use Rattle.hll_meaning.specs.Types.{kind_of}
-use Rattle.hll_types.specs.Scopes.{context}
+use Rattle.hll_expressions.specs.Scopes.{context}
 use Rattle.hll_types.proofs.GivenParts.{of_alone, of_both}
 use Rattle.hll_types.proofs.define.given.Goals as goal
 

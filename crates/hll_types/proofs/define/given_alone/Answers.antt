@@ -1,10 +1,10 @@
 use Rattle.std.proofs.Common.{◌++◌}
 use Rattle.hll_meaning.specs.Judging.{judged}
 use Rattle.hll_meaning.specs.Types.{kind_of}
-use Rattle.hll_types.specs.Answers.{IsFaultAt}
-use Rattle.hll_types.specs.Scopes.{context}
-use Rattle.hll_types.proofs.Firsts.{before}
-use Rattle.hll_types.proofs.FaultFolds.{handed}
+use Rattle.hll_expressions.specs.Answers.{IsFaultAt}
+use Rattle.hll_expressions.specs.Scopes.{context}
+use Rattle.hll_expressions.proofs.Firsts.{before}
+use Rattle.hll_expressions.proofs.FaultFolds.{handed}
 use Rattle.hll_types.proofs.GivenParts.{alone_fits}
 use Rattle.hll_types.proofs.define.given_alone.Goals as goal
 

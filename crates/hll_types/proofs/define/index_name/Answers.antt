@@ -4,12 +4,12 @@ use Rattle.hll_meaning.specs.declared.fault.StaticKind.TheVariants.{Twice}
 use Rattle.hll_meaning.specs.Declarations.{is_among}
 use Rattle.hll_meaning.specs.Judging.{fault_if}
 use Rattle.hll_meaning.specs.StaticRules.{with_slot}
-use Rattle.hll_types.specs.declared.scope.Index.{Index}
-use Rattle.hll_types.specs.Answers.{IsFaultAt}
-use Rattle.hll_types.specs.Scopes.{index_names}
+use Rattle.hll_expressions.specs.declared.scope.Index.{Index}
+use Rattle.hll_expressions.specs.Answers.{IsFaultAt}
+use Rattle.hll_expressions.specs.Scopes.{index_names}
 use Rattle.hll_types.specs.Defining.{left_of}
-use Rattle.hll_types.proofs.Firsts.{no_memory}
-use Rattle.hll_types.proofs.FaultFolds.{handed}
+use Rattle.hll_expressions.proofs.Firsts.{no_memory}
+use Rattle.hll_expressions.proofs.FaultFolds.{handed}
 use Rattle.hll_types.proofs.LeftSides.{is_bound_so, index_twice, index_shape, index_added, no_array}
 use Rattle.hll_types.proofs.define.index_name.Goals as goal
 

@@ -1,9 +1,9 @@
 use Rattle.std.proofs.Common.{fold, sym, ap, subst, ◌∙◌}
 use Rattle.std.proofs.lemmas.List.{take_all}
 use Rattle.hll_meaning.specs.StaticRules.{Left, with_slot}
-use Rattle.hll_types.specs.Answers.{IsFaultAt}
+use Rattle.hll_expressions.specs.Answers.{IsFaultAt}
 use Rattle.hll_types.specs.Defining.{left_of}
-use Rattle.hll_types.proofs.FaultFolds.{handed, step_more, first_of_step}
+use Rattle.hll_expressions.proofs.FaultFolds.{handed, step_more, first_of_step}
 use Rattle.hll_types.proofs.LeftSides.{slot_keeps}
 use Rattle.hll_types.proofs.define.left.Goals as goal
 

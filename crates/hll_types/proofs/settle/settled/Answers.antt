@@ -1,14 +1,15 @@
-use Rattle.std.proofs.Common.{◌≡◌, ◌∷◌, ◌++◌, sym, ap, ◌∙◌}
+use Rattle.std.proofs.Common.{◌≡◌, [], ◌∷◌, ◌++◌, sym, ap, ◌∙◌}
+use Rattle.std.proofs.lemmas.List.{append-nil}
 use Rattle.hll_meaning.specs.Names.{Names}
-use Rattle.hll_meaning.specs.Declarations.{is_among}
+use Rattle.hll_meaning.specs.Declarations.{is_among, names}
 use Rattle.hll_meaning.specs.StaticRules.{taken_by}
 use Rattle.hll_types.specs.Settling.{names_in, root_in, thing_in}
-use Rattle.hll_types.specs.Standing.{declared_names}
-use Rattle.hll_types.specs.Things.{said_of}
+use Rattle.hll_expressions.specs.Things.{declared_names}
+use Rattle.hll_expressions.specs.Things.{said_of}
 use Rattle.hll_types.proofs.Apart.{apart_distinct}
 use Rattle.hll_types.proofs.RootedThings.{next_new, next_settled}
 use Rattle.hll_types.proofs.SettledNames.{names_settled}
-use Rattle.hll_types.proofs.ThingNames.{as_names}
+use Rattle.hll_expressions.proofs.ThingNames.{as_names}
 use Rattle.hll_types.proofs.settle.settled.Goals as goal
 
 pub loop-name-preserved : goal.loop-name-preserved
@@ -33,8 +34,9 @@ returns c = λ m none declared sorts.
     let r = root_in c.args.sorts.now c.in_ok-roots.roots.items in
     let before = declared_names c.loop-name.all in
     let inv = c.loop-name.invariant in
-    ap (λ (xs : Names). before ++ xs) inv.1
-    ∙ ap (λ xs. before ++ names_in r (as_names (λ k. k.items) said_of xs)) (sym c.in-None.ensures.steps.0)
+    let all : before ++ [] ≡ names m =
+    ap (λ xs. before ++ names_in r (as_names (λ k. k.items) said_of xs)) (sym c.in-None.ensures.steps.0)
     ∙ inv.0
     ∙ ap (names_in r) declared
-    ∙ names_settled m c.args.sorts.now c.in_ok-roots.roots.items none sorts c.in_ok-roots.ensures
+    ∙ names_settled m c.args.sorts.now c.in_ok-roots.roots.items none sorts c.in_ok-roots.ensures in
+    (ap (λ (xs : Names). before ++ xs) inv.1 ∙ all, sym (append-nil before) ∙ all)

@@ -1,7 +1,7 @@
 use Rattle.std.proofs.Common.{◌≡◌, [], ◌++◌, map}
 use Rattle.hll_types.specs.Settling.{names_in, root_in}
-use Rattle.hll_types.specs.Standing.{declared_names, names_further}
-use Rattle.hll_types.specs.Things.{said_of}
+use Rattle.hll_expressions.specs.Things.{declared_names, names_further}
+use Rattle.hll_expressions.specs.Things.{said_of}
 use Rattle.hll_types.proofs.settle.settled.Given as goal
 
 abbrev pub invariant-loop-name : goal.invariant-loop-name

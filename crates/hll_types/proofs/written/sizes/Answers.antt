@@ -1,7 +1,7 @@
 use Rattle.std.proofs.Common.{◌≡◌, ◌+◌, [], ◌∷◌, ◌++◌, take, sym, ap, ◌∙◌}
 use Rattle.std.proofs.lemmas.List.{take_more}
 use Rattle.std.proofs.lemmas.Result.{err_from_is_err_and}
-use Rattle.hll_types.specs.Scopes.{context}
+use Rattle.hll_expressions.specs.Scopes.{context}
 use Rattle.hll_types.proofs.DimsWalk.{dims_fault}
 use Rattle.hll_types.proofs.written.sizes.Goals as goal
 

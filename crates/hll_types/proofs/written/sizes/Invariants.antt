@@ -1,6 +1,6 @@
 use Rattle.std.proofs.Common.{◌≡◌, [], map, take}
 use Rattle.hll_meaning.specs.StaticRules.{dims_faults}
-use Rattle.hll_types.specs.Scopes.{context}
+use Rattle.hll_expressions.specs.Scopes.{context}
 use Rattle.hll_types.specs.Written.{said_size}
 use Rattle.hll_types.proofs.written.sizes.Given as goal
 

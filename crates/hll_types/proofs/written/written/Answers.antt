@@ -1,8 +1,8 @@
 use Rattle.std.proofs.Common.{◌∙◌, subst}
 use Rattle.hll_meaning.specs.Judging.{judged}
 use Rattle.hll_meaning.proofs.KindForms.{kind_of_int}
-use Rattle.hll_types.specs.Described.{Describes}
-use Rattle.hll_types.specs.Scopes.{context}
+use Rattle.hll_expressions.specs.Described.{Describes}
+use Rattle.hll_expressions.specs.Scopes.{context}
 use Rattle.hll_types.proofs.written.written.Goals as goal
 
 pub returns-in_ok-bounds-in-Bounds : goal.returns-in_ok-bounds-in-Bounds

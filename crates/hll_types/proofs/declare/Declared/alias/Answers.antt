@@ -5,8 +5,8 @@ use Rattle.hll_meaning.specs.Types.{kind_of}
 use Rattle.hll_meaning.specs.Declarations.{declared_kind, with_dims}
 use Rattle.hll_meaning.specs.Judging.{fault_if}
 use Rattle.hll_meaning.specs.StaticRules.{is_large, taken_by}
-use Rattle.hll_types.specs.Standing.{declared_names}
-use Rattle.hll_types.proofs.FirstFaults.{fault_same}
+use Rattle.hll_expressions.specs.Things.{declared_names}
+use Rattle.hll_expressions.proofs.FirstFaults.{fault_same}
 use Rattle.hll_types.proofs.ItemAnswers.{alias_written, alias_twice, alias_dims, alias_large, alias_right}
 use Rattle.hll_types.proofs.LargeKinds.{large_measure}
 use Rattle.hll_types.proofs.FreshNames.{new_name}

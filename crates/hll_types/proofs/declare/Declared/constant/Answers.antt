@@ -1,7 +1,7 @@
 use Rattle.std.proofs.lemmas.Result.{err_from_is_err_and}
 use Rattle.hll_meaning.specs.StaticRules.{taken_by}
-use Rattle.hll_types.specs.Standing.{declared_names}
-use Rattle.hll_types.specs.Things.{said_of}
+use Rattle.hll_expressions.specs.Things.{declared_names}
+use Rattle.hll_expressions.specs.Things.{said_of}
 use Rattle.hll_types.proofs.ItemAnswers.{constant_twice, constant_wrong, constant_right}
 use Rattle.hll_types.proofs.FreshNames.{new_name}
 use Rattle.hll_types.proofs.NameAnswers.{declared_answer}

@@ -1,7 +1,7 @@
 use Rattle.std.proofs.Common.{true, []}
 use Rattle.std.proofs.lemmas.Result.{err_from_is_err_and}
-use Rattle.hll_types.specs.Scopes.{context}
-use Rattle.hll_types.specs.Things.{names_of}
+use Rattle.hll_expressions.specs.Scopes.{context}
+use Rattle.hll_expressions.specs.Things.{names_of}
 use Rattle.hll_types.proofs.ConstantAnswers.{judged_wrong, truth_answer, whole_answer}
 use Rattle.hll_types.proofs.Lookups.{place}
 use Rattle.hll_types.proofs.NameAnswers.{described_there, fault_there}

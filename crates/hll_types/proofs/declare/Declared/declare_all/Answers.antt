@@ -1,7 +1,7 @@
 use Rattle.std.proofs.Common.{◌≡◌, ◌+◌, ◌≤◌, [], ◌∷◌, ◌++◌, length, take, sym, ap, subst, ◌∙◌, arith}
 use Rattle.std.proofs.lemmas.List.{take_more}
 use Rattle.std.proofs.lemmas.Bool.{ltb-true, ltb-false}
-use Rattle.hll_types.specs.Standing.{declared_names, IsAdded}
+use Rattle.hll_expressions.specs.Things.{declared_names, IsAdded}
 use Rattle.hll_types.proofs.VariableAnswers.{next_new, next_added, kinds_short, kinds_long}
 use Rattle.hll_types.proofs.declare.Declared.declare_all.Goals as goal
 

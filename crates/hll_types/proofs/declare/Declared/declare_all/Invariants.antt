@@ -1,6 +1,6 @@
 use Rattle.std.proofs.Common.{◌≡◌, [], ◌++◌, map, take}
 use Rattle.hll_meaning.specs.StaticRules.{fresh, taken_by}
-use Rattle.hll_types.specs.Standing.{declared_names, IsAdded}
+use Rattle.hll_expressions.specs.Things.{declared_names, IsAdded}
 use Rattle.hll_types.specs.Declaring.{with_kinds}
 use Rattle.hll_types.proofs.declare.Declared.declare_all.Given as goal
 

@@ -3,11 +3,11 @@ use Rattle.std.proofs.lemmas.List.{take_more}
 use Rattle.std.proofs.lemmas.Result.{err_from_is_err_and}
 use Rattle.hll_meaning.specs.Declarations.{texts}
 use Rattle.hll_meaning.specs.StaticRules.{fresh_name, taken_by}
-use Rattle.hll_types.specs.Standing.{declared_names}
+use Rattle.hll_expressions.specs.Things.{declared_names}
 use Rattle.std.proofs.lemmas.List.{length-take-le}
 use Rattle.hll_types.proofs.Coding.{codes_more, elements_fault, elements_more, elements_taken}
 use Rattle.hll_types.proofs.FreshNames.{new_name}
-use Rattle.hll_types.proofs.FirstFaults.{fault_same}
+use Rattle.hll_expressions.proofs.FirstFaults.{fault_same}
 use Rattle.hll_types.proofs.declare.Declared.elements.Goals as goal
 
 pub returns-in_err-fresh : goal.returns-in_err-fresh

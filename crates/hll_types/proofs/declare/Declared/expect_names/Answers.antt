@@ -3,7 +3,7 @@ use Rattle.std.proofs.lemmas.List.{append-nil, take_more, take_all}
 use Rattle.hll_tree.specs.declared.tree.Name.{Name}
 use Rattle.hll_meaning.specs.Names.{later, under}
 use Rattle.hll_types.specs.Declaring.{IsAfter, start}
-use Rattle.hll_types.specs.Standing.{names_further}
+use Rattle.hll_expressions.specs.Things.{names_further}
 use Rattle.hll_types.proofs.ExpectWalk.{expected_more, names_behind}
 use Rattle.hll_types.proofs.declare.Declared.expect_names.Goals as goal
 

@@ -1,7 +1,7 @@
 use Rattle.std.proofs.Common.{ap, ◌∙◌}
 use Rattle.hll_meaning.specs.Declarations.{is_among}
 use Rattle.hll_meaning.specs.StaticRules.{taken_by}
-use Rattle.hll_types.specs.Standing.{declared_names}
+use Rattle.hll_expressions.specs.Things.{declared_names}
 use Rattle.hll_types.proofs.NameAnswers.{fresh_answer}
 use Rattle.hll_types.proofs.declare.Declared.fresh.Goals as goal
 

@@ -7,7 +7,7 @@ use Rattle.hll_meaning.specs.Names.{type_of}
 use Rattle.hll_meaning.specs.Types.{kind_of}
 use Rattle.hll_meaning.specs.StaticRules.{taken_by}
 use Rattle.hll_meaning.proofs.KindForms.{kind_of_elem}
-use Rattle.hll_types.specs.Standing.{declared_names, IsAdded}
+use Rattle.hll_expressions.specs.Things.{declared_names, IsAdded}
 use Rattle.hll_types.specs.Sorting.{codes_of_count}
 use Rattle.hll_types.proofs.FreshNames.{new_name}
 use Rattle.hll_types.proofs.NameAnswers.{declared_answer}

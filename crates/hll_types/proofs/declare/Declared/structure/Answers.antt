@@ -8,8 +8,8 @@ use Rattle.hll_meaning.specs.Types.{kind_of}
 use Rattle.hll_meaning.specs.Declarations.{field_kinds}
 use Rattle.hll_meaning.specs.Judging.{fault_if}
 use Rattle.hll_meaning.specs.StaticRules.{is_large, taken_by}
-use Rattle.hll_types.specs.Standing.{declared_names, IsAdded}
-use Rattle.hll_types.proofs.FirstFaults.{fault_same}
+use Rattle.hll_expressions.specs.Things.{declared_names, IsAdded}
+use Rattle.hll_expressions.proofs.FirstFaults.{fault_same}
 use Rattle.hll_types.proofs.ItemAnswers.{struct_fields, struct_twice, struct_large, struct_right}
 use Rattle.hll_types.proofs.LargeKinds.{large_measure}
 use Rattle.hll_types.proofs.FreshNames.{new_name}

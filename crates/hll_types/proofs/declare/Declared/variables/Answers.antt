@@ -3,7 +3,7 @@ use Rattle.std.proofs.lemmas.Result.{err_from_is_err_and}
 use Rattle.hll_meaning.specs.Types.{kind_of}
 use Rattle.hll_meaning.specs.StaticRules.{declaring, item_faults}
 use Rattle.hll_meaning.specs.Declarations.{variables_of}
-use Rattle.hll_types.specs.Answers.{IsFaultAt}
+use Rattle.hll_expressions.specs.Answers.{IsFaultAt}
 use Rattle.hll_types.proofs.VariableAnswers.{names_there, variables_written, variables_wrong, variables_right}
 use Rattle.hll_types.proofs.declare.Declared.variables.Goals as goal
 

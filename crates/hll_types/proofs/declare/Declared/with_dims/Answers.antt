@@ -1,5 +1,5 @@
 use Rattle.hll_meaning.specs.Types.{kind_of}
-use Rattle.hll_types.specs.Scopes.{context}
+use Rattle.hll_expressions.specs.Scopes.{context}
 use Rattle.hll_types.proofs.StandingNames.{kind_with_dims}
 use Rattle.hll_types.proofs.declare.Declared.with_dims.Goals as goal
 

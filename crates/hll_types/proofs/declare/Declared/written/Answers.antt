@@ -1,4 +1,4 @@
-use Rattle.hll_types.specs.Scopes.{context}
+use Rattle.hll_expressions.specs.Scopes.{context}
 use Rattle.hll_types.proofs.StandingNames.{kind_written}
 use Rattle.hll_types.proofs.declare.Declared.written.Goals as goal
 

@@ -3,9 +3,9 @@ use Rattle.std.specs.Str.{bytes_eq}
 use Rattle.hll_meaning.specs.declared.fault.StaticKind.TheVariants.{Twice}
 use Rattle.hll_meaning.specs.Judging.{fault_if}
 use Rattle.hll_meaning.specs.StaticRules.{definitions_of, is_repeated}
-use Rattle.hll_types.specs.Answers.{IsFaultAt}
+use Rattle.hll_expressions.specs.Answers.{IsFaultAt}
 use Rattle.hll_types.specs.Defining.{HasParts, parts_under}
-use Rattle.hll_types.proofs.FaultFolds.{handed}
+use Rattle.hll_expressions.proofs.FaultFolds.{handed}
 use Rattle.hll_types.proofs.KeptParts.{keeps_more, put}
 use Rattle.hll_types.proofs.define.Defined.add.Goals as goal
 

@@ -1,6 +1,6 @@
 use Rattle.std.proofs.Common.{[], ◌∷◌, ◌++◌, not, map, ap, ◌∙◌}
 use Rattle.hll_meaning.specs.Declarations.{is_among}
-use Rattle.hll_types.proofs.ByName.{among_named, insert_new_key, refused_or_new}
+use Rattle.hll_expressions.proofs.ByName.{among_named, insert_new_key, refused_or_new}
 use Rattle.hll_types.proofs.seen.Seen.insert.Goals as goal
 use Rattle.hll_types.proofs.seen.Seen.insert.Goals.{in-Ok, in-Err}
 

@@ -7,11 +7,11 @@ use Rattle.hll_meaning.specs.Names.{under}
 use Rattle.hll_meaning.specs.Declarations.{is_among}
 use Rattle.hll_meaning.specs.Judging.{fault_if}
 use Rattle.hll_meaning.specs.StaticRules.{declaring}
-use Rattle.hll_types.specs.declared.fault.StaticFault.TheVariants.{Fault}
-use Rattle.hll_types.specs.Answers.{IsFaultAt}
-use Rattle.hll_types.specs.Things.{names_of}
+use Rattle.hll_expressions.specs.declared.faults.StaticFault.TheVariants.{Fault}
+use Rattle.hll_expressions.specs.Answers.{IsFaultAt}
+use Rattle.hll_expressions.specs.Things.{names_of}
 use Rattle.hll_types.proofs.ChildAnswers.{parent_some, child_unknown, child_twice, child_kind, child_fine, nothing_there, sort_there, parent_there, no_sort_there, no_parent_there}
-use Rattle.hll_types.proofs.FirstFaults.{fault_same}
+use Rattle.hll_expressions.proofs.FirstFaults.{fault_same}
 use Rattle.hll_types.proofs.sorts.Sorts.child.Goals as goal
 
 pub returns-in_err-refuse_if : goal.returns-in_err-refuse_if

@@ -1,6 +1,6 @@
 use Rattle.std.proofs.Common.{ap, ◌∙◌}
 use Rattle.hll_meaning.specs.Names.{under}
-use Rattle.hll_types.proofs.ByName.{lookup_under}
+use Rattle.hll_expressions.proofs.ByName.{lookup_under}
 use Rattle.hll_types.proofs.sorts.Sorts.get.Goals as goal
 
 pub returns : goal.returns

@@ -1,7 +1,7 @@
 use Rattle.std.proofs.Common.{◌≡◌, ℕ, List, [], ◌∷◌, map, position, refl, ap, ◌∙◌}
 use Rattle.std.specs.Str.{bytes_eq}
 use Rattle.hll_types.specs.declared.sorts.Sort.{Sort}
-use Rattle.hll_types.proofs.ByName.{position_named}
+use Rattle.hll_expressions.proofs.ByName.{position_named}
 use Rattle.hll_types.proofs.sorts.Sorts.number.Goals as goal
 
 names : {K X : Type 0} (name : K → List ℕ) (es : List (K × X)) → map name (map (λ e. e.0) es) ≡ map (λ (e : List ℕ × X). e.0) (map {B = List ℕ × X} (λ e. (name e.0, e.1)) es)

@@ -1,7 +1,7 @@
 use Rattle.std.proofs.Common.{ap, ◌∙◌}
 use Rattle.std.specs.Str.{bytes_eq}
 use Rattle.indexmap.specs.IndexMap.{insert_entry}
-use Rattle.hll_types.proofs.ByName.{named, insert_named}
+use Rattle.hll_expressions.proofs.ByName.{named, insert_named}
 use Rattle.hll_types.proofs.sorts.Sorts.put.Goals as goal
 use Rattle.hll_types.proofs.sorts.Sorts.put.Goals.{in-Ok, in-Err}
 

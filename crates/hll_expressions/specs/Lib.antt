@@ -1,0 +1,11 @@
+pub mod Answers
+pub mod Things
+pub mod Scopes
+pub mod Described
+pub mod Joining
+pub mod Chains
+pub mod Choices
+pub mod Ways
+pub mod Forms
+pub mod Figures
+pub mod Ranges

@@ -1,0 +1,9 @@
+use Rattle.std.proofs.Common.{take}
+use Rattle.std.specs.List.{flat_map}
+use Rattle.hll_meaning.specs.Nodes.{nodes, ranges_of}
+use Rattle.hll_expressions.specs.Scopes.{context}
+use Rattle.hll_expressions.specs.Ranges.{HasNoted}
+use Rattle.hll_types.proofs.ranges.constants.Given as goal
+
+abbrev pub invariant-loop-item : goal.invariant-loop-item
+invariant-loop-item l = HasNoted l.fn.ranges l.ranges (ranges_of (flat_map (λ k. nodes k.value (context l.scope)) (take l.item-index l.items)))
