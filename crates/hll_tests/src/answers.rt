@@ -242,8 +242,8 @@ fn evidence(alloc: Global, times: usize) -> Result<String, AllocError> {
 
 const SUMMARY: &[u8] = b"proved 0 falsified 0 undecided 0\n";
 
-/// How often the first log says it, and how many reads a check makes: each gives 65,536 bytes at most, the last one none.
-const READS: [(usize, u64); 3] = [(0, 2), (14_000, 3), (27_000, 4)];
+/// How often the first log says it, and how many reads a check makes: each gives 4,096 bytes at most, the last one none.
+const READS: [(usize, u64); 3] = [(0, 2), (1_000, 3), (2_000, 4)];
 
 #[test]
 fn each_call_of_a_check_that_fails_has_its_status(rt: HostRuntime) -> Result<(), Fail> {
