@@ -1,0 +1,184 @@
+-- The cells of types and of variables, part by part, and how many they are.
+use Rattle.std.proofs.Common.{◌≡◌, ℕ, zero, suc, ◌+◌, ◌*◌, ◌-◌, ◌^◌, ◌≤◌, ◌<◌, min, ◌⊎◌, inl, inr, Bool, true, false, List, [], ◌∷◌, ◌++◌, map, length, refl, sym, ap, ◌∙◌, arith, append_assoc, zero-add, if◌then◌else◌}
+use Rattle.std.specs.Prelude.{codes, decimal}
+use Rattle.std.specs.List.{flat_map, list_any, range_with_len}
+use Rattle.std.proofs.Math.Nat.{min-eq_left}
+use Rattle.std.proofs.lemmas.Bool.{cases_lt}
+use Rattle.std.proofs.lemmas.List.{append-nil, length-append, map-append}
+use Rattle.std.proofs.lemmas.Grind.{flat_map-append}
+use Rattle.hll_tree.specs.declared.tree.Def.{Def}
+use Rattle.hll_tree.specs.declared.tree.HllModel.{HllModel}
+use Rattle.hll_tree.specs.Printing.{Text, name_text}
+use Rattle.hll_meaning.specs.declared.ty.FieldTy.{FieldTy}
+use Rattle.hll_meaning.specs.Kinds.{Kind, truth, whole, element, array, struct, Fields, none, field, cells, ranges, field_ranges}
+use Rattle.hll_meaning.specs.Names.{constant, type_of, code_in, variable, later, Names}
+use Rattle.hll_meaning.specs.Types.{kind_of}
+use Rattle.hll_meaning.specs.Declarations.{names}
+use Rattle.hll_meaning.specs.Runs.{definitions, variables_among}
+use Rattle.hll_meaning.specs.StaticRules.{definitions_of, part_kind}
+use Rattle.trace_text.specs.Cells.{Cell, named_cells, field_cells, cells_of_all, text_cells, input_kind, input_cells}
+use Rattle.hll_meaning.proofs.AreIn.{copies, copies_more, copies_none, repeated_copies}
+use Rattle.hll_types.specs.declared.variables.Role.{Role}
+use Rattle.hll_types.specs.declared.variables.Role.TheVariants as role
+use Rattle.hll_types.specs.declared.variables.Variable.{Variable}
+use Rattle.hll_types.specs.Checked.{is_memory, role_by, roles_among, AreVariables}
+use Rattle.trace_text.specs.Parts.{capped, cells_by_role, fields_kinds, own_cells}
+
+-- ---- parts
+
+range_more : (a n : ℕ) → range_with_len a (n + 1) ≡ range_with_len a n ++ (a + n) ∷ []
+range_more a zero = let same : a ≡ a + 0 = omega arith in ap (λ (b : ℕ). b ∷ []) same
+range_more a (suc n) =
+    let same : a + 1 + n ≡ a + suc n = omega arith in
+    let next : suc n + 1 ≡ suc (n + 1) = omega arith in
+    ap (range_with_len a) next ∙ ap (λ (xs : List ℕ). a ∷ xs) (range_more (a + 1) n ∙ ap (λ (b : ℕ). range_with_len (a + 1) n ++ b ∷ []) same)
+
+-- the cells of one element more
+pub elements_more : (name : Text) (k : Kind) (i : ℕ) → named_cells name (array (i + 1) k) ≡ named_cells name (array i k) ++ named_cells (name ++ codes "[" ++ decimal i ++ codes "]") k
+elements_more name k i =
+    let one = λ (j : ℕ). named_cells (name ++ codes "[" ++ decimal j ++ codes "]") k in
+    ap (flat_map one) (range_more 0 i ∙ ap (λ (j : ℕ). range_with_len 0 i ++ j ∷ []) (zero-add i))
+    ∙ flat_map-append one (range_with_len 0 i) (i ∷ [])
+    ∙ ap (λ cs. named_cells name (array i k) ++ cs) (append-nil (one i))
+
+-- the cells of one field more
+pub fields_more : (name : Text) (fields : List FieldTy) (f : FieldTy) →
+    field_cells name (fields_kinds (fields ++ f ∷ [])) ≡ field_cells name (fields_kinds fields) ++ named_cells (name ++ codes "." ++ name_text f.name) (kind_of f.ty)
+fields_more name [] f = append-nil (named_cells (name ++ codes "." ++ name_text f.name) (kind_of f.ty))
+fields_more name (e ∷ fields) f =
+    let own = named_cells (name ++ codes "." ++ name_text e.name) (kind_of e.ty) in
+    ap (λ cs. own ++ cs) (fields_more name fields f)
+    ∙ sym (append_assoc own (field_cells name (fields_kinds fields)) (named_cells (name ++ codes "." ++ name_text f.name) (kind_of f.ty)))
+
+-- ---- variables
+
+-- a variable with its kind
+abbrev pub kind_pair : Variable → List ℕ × Kind
+kind_pair v = (v.name, kind_of v.ty)
+
+abbrev inputs_among : Names → List (List ℕ × Kind)
+inputs_among = flat_map (λ x. flat_map (λ k. (x.0, k) ∷ []) (input_kind x.1))
+
+no_input : (b : Bool) (r : Role) (cs : List Cell) → r ≡ (if b then role.Memory else role.Value) → cells_by_role r cs ≡ []
+no_input true r cs h = ap (λ (q : Role). cells_by_role q cs) h
+no_input false r cs h = ap (λ (q : Role). cells_by_role q cs) h
+
+cons_parts : {A : Type 0} (x y : A) (xs ys : List A) → x ∷ xs ≡ y ∷ ys → (x ≡ y) × (xs ≡ ys)
+cons_parts x y xs ys h = (cc h, cc h)
+
+inputs_by_role : (defs : List Def) (all : Names) (vs : List Variable) → map kind_pair vs ≡ variables_among all → map {B = List ℕ × Role} (λ v. (v.name, v.role)) vs ≡ roles_among defs all → cells_of_all (inputs_among all) ≡ flat_map own_cells vs
+inputs_by_role defs [] [] p q = refl
+inputs_by_role defs [] (v ∷ vs) p q = absurd (cc p)
+inputs_by_role defs ((n, constant b x) ∷ all) vs p q = inputs_by_role defs all vs p q
+inputs_by_role defs ((n, type_of k) ∷ all) vs p q = inputs_by_role defs all vs p q
+inputs_by_role defs ((n, code_in root c) ∷ all) vs p q = inputs_by_role defs all vs p q
+inputs_by_role defs ((n, later) ∷ all) vs p q = inputs_by_role defs all vs p q
+inputs_by_role defs ((n, variable true k) ∷ all) [] p q = absurd (cc p)
+inputs_by_role defs ((n, variable false k) ∷ all) [] p q = absurd (cc p)
+inputs_by_role defs ((n, variable true k) ∷ all) (v ∷ vs) p q =
+    let kinds = cons_parts (kind_pair v) (n, k) (map kind_pair vs) (variables_among all) p in
+    let roles = cons_parts {A = List ℕ × Role} (v.name, v.role) (n, role.Input) (map {B = List ℕ × Role} (λ v. (v.name, v.role)) vs) (roles_among defs all) q in
+    (λ i. cells_by_role ((sym roles.0 i).1) (named_cells (name_text ((sym kinds.0 i).0)) ((sym kinds.0 i).1)) ++ inputs_by_role defs all vs kinds.1 roles.1 i)
+inputs_by_role defs ((n, variable false k) ∷ all) (v ∷ vs) p q =
+    let kinds = cons_parts (kind_pair v) (n, k) (map kind_pair vs) (variables_among all) p in
+    let roles = cons_parts {A = List ℕ × Role} (v.name, v.role) (n, role_by (definitions_of defs n) false) (map {B = List ℕ × Role} (λ v. (v.name, v.role)) vs) (roles_among defs all) q in
+    let nothing = no_input (list_any (λ d. is_memory (part_kind d.part)) (definitions_of defs n)) v.role (named_cells (name_text v.name) (kind_of v.ty)) (ap (λ (x : List ℕ × Role). x.1) roles.0) in
+    (λ i. sym nothing i ++ inputs_by_role defs all vs kinds.1 roles.1 i)
+
+-- the cells of the inputs of a text
+pub input_cells_are : (m : HllModel) (vs : List Variable) → AreVariables m vs → flat_map own_cells vs ≡ input_cells m
+input_cells_are m vs h = sym (inputs_by_role (definitions m) (names m) vs h.kinds h.roles)
+
+-- the cells of one variable more
+pub own_more : (vs : List Variable) (v : Variable) → flat_map own_cells (vs ++ v ∷ []) ≡ flat_map own_cells vs ++ own_cells v
+own_more vs v = flat_map-append own_cells vs (v ∷ []) ∙ ap (λ cs. flat_map own_cells vs ++ cs) (append-nil (own_cells v))
+
+-- ---- how many they are
+
+sum_within : (g a b : ℕ) → min (min a g + min b g) g ≡ min (a + b) g
+sum_within g a b = omega arith
+
+product_within : (g a n : ℕ) → min (min a g * n) g ≡ min (n * a) g
+product_within g a zero = omega arith
+product_within g a (suc n) = either (cases_lt g a)
+  where
+    small : a ≤ g → min (min a g * suc n) g ≡ min (suc n * a) g
+    small le = let same : a * suc n ≡ suc n * a = omega arith in ap (λ x. min (x * suc n) g) (min-eq_left le) ∙ ap (λ x. min x g) same
+
+    great : g < a → min (min a g * suc n) g ≡ min (suc n * a) g
+    great lt =
+        let all : min a g ≡ g = omega arith in
+        let left : min (g * suc n) g ≡ g = omega arith in
+        let right : min (suc n * a) g ≡ g = omega arith in
+        ap (λ x. min (x * suc n) g) all ∙ left ∙ sym right
+
+    either : (g < a) ⊎ (a ≤ g) → min (min a g * suc n) g ≡ min (suc n * a) g
+    either (inl lt) = great lt
+    either (inr le) = small le
+
+length-copies : {A : Type 0} (n : ℕ) (xs : List A) → length (copies n xs) ≡ n * length xs
+length-copies zero xs = ap length (copies_none xs) ∙ omega arith
+length-copies (suc n) xs = ap length (copies_more n xs) ∙ omega (arith, length-append xs (copies n xs), length-copies n xs)
+
+-- the cells of an array, held
+pub array_held : (size : ℕ) (k : Kind) (a : ℕ) → a ≡ capped (cells k) → min (a * size) (2 ^ 64 - 1) ≡ capped (cells (array size k))
+array_held size k a p =
+    ap (λ (n : ℕ). min (n * size) (2 ^ 64 - 1)) p ∙ product_within (2 ^ 64 - 1) (cells k) size ∙ ap capped (sym (ap length (repeated_copies size (ranges k)) ∙ length-copies size (ranges k)))
+
+-- the cells of fields
+abbrev pub fields_count : List FieldTy → ℕ
+fields_count fields = length (field_ranges (fields_kinds fields))
+
+fields_further : (fields : List FieldTy) (f : FieldTy) → fields_count (fields ++ f ∷ []) ≡ fields_count fields + cells (kind_of f.ty)
+fields_further [] f = omega (arith, length-append (ranges (kind_of f.ty)) [])
+fields_further (e ∷ fields) f =
+    omega (arith, length-append (ranges (kind_of e.ty)) (field_ranges (fields_kinds (fields ++ f ∷ []))), length-append (ranges (kind_of e.ty)) (field_ranges (fields_kinds fields)), fields_further fields f)
+
+-- one field more, held
+pub fields_held : (fields : List FieldTy) (f : FieldTy) (a b : ℕ) → a ≡ capped (fields_count fields) → b ≡ capped (cells (kind_of f.ty)) → min (a + b) (2 ^ 64 - 1) ≡ capped (fields_count (fields ++ f ∷ []))
+fields_held fields f a b p q =
+    (λ i. min (p i + q i) (2 ^ 64 - 1)) ∙ sum_within (2 ^ 64 - 1) (fields_count fields) (cells (kind_of f.ty)) ∙ ap capped (sym (fields_further fields f))
+
+length_flat : {A B C : Type 0} (f : A → List B) (g : A → List C) → ((x : A) → length (f x) ≡ length (g x)) → (xs : List A) → length (flat_map f xs) ≡ length (flat_map g xs)
+length_flat f g same [] = refl
+length_flat f g same (x ∷ xs) = length-append (f x) (flat_map f xs) ∙ (λ i. same x i + length_flat f g same xs i) ∙ sym (length-append (g x) (flat_map g xs))
+
+mutual
+  -- a value has as many named cells as it has cells
+  pub length-named : (name : Text) (k : Kind) → length (named_cells name k) ≡ cells k
+  length-named name truth = refl
+  length-named name (whole e) = refl
+  length-named name (element root e) = refl
+  length-named name (array size k) =
+      length_flat (λ (i : ℕ). named_cells (name ++ codes "[" ++ decimal i ++ codes "]") k) (λ (i : ℕ). ranges k) (λ i. length-named (name ++ codes "[" ++ decimal i ++ codes "]") k) (range_with_len 0 size)
+  length-named name (struct s fields) = length-fields name fields
+
+  length-fields : (name : Text) (fields : Fields) → length (field_cells name fields) ≡ length (field_ranges fields)
+  length-fields name none = refl
+  length-fields name (field f k fields) =
+      length-append (named_cells (name ++ codes "." ++ name_text f) k) (field_cells name fields)
+      ∙ (λ i. length-named (name ++ codes "." ++ name_text f) k i + length-fields name fields i)
+      ∙ sym (length-append (ranges k) (field_ranges fields))
+
+-- the cells of some variables
+abbrev pub count_of : List Variable → ℕ
+count_of vs = length (cells_of_all (map kind_pair vs))
+
+-- one variable more
+pub count_more : (vs : List Variable) (v : Variable) (a b : ℕ) → a ≡ capped (count_of vs) → b ≡ capped (cells (kind_of v.ty)) → min (a + b) (2 ^ 64 - 1) ≡ capped (count_of (vs ++ v ∷ []))
+count_more vs v a b p q =
+    let one = λ (x : List ℕ × Kind). named_cells (name_text x.0) x.1 in
+    let all = map-append kind_pair vs (v ∷ []) in
+    let parts : cells_of_all (map kind_pair (vs ++ v ∷ [])) ≡ cells_of_all (map kind_pair vs) ++ one (kind_pair v) =
+    ap cells_of_all all ∙ flat_map-append one (map kind_pair vs) (kind_pair v ∷ []) ∙ ap (λ cs. cells_of_all (map kind_pair vs) ++ cs) (append-nil (one (kind_pair v))) in
+    let count : count_of (vs ++ v ∷ []) ≡ count_of vs + cells (kind_of v.ty) =
+    ap length parts ∙ length-append (cells_of_all (map kind_pair vs)) (one (kind_pair v)) ∙ ap (λ (n : ℕ). count_of vs + n) (length-named (name_text v.name) (kind_of v.ty)) in
+    (λ i. min (p i + q i) (2 ^ 64 - 1)) ∙ sum_within (2 ^ 64 - 1) (count_of vs) (cells (kind_of v.ty)) ∙ ap capped (sym count)
+
+pub count_all : (m : HllModel) (vs : List Variable) → AreVariables m vs → count_of vs ≡ length (text_cells m)
+count_all m vs h = ap (λ xs. length (cells_of_all xs)) h.kinds
+
+-- ---- one behind the other
+
+pub appended_more : {A : Type 0} (old mid new front more all : List A) → mid ≡ old ++ front → new ≡ mid ++ more → all ≡ front ++ more → new ≡ old ++ all
+appended_more old mid new front more all p q r = q ∙ ap (λ xs. xs ++ more) p ∙ append_assoc old front more ∙ ap (λ xs. old ++ xs) (sym r)

@@ -1,0 +1,12 @@
+pub mod InputCells
+pub mod DistinctNames
+pub mod ElementCodes
+pub mod ElementNames
+pub mod SignedNumbers
+pub mod LineTexts
+pub mod TextFronts
+pub mod NumberFronts
+pub mod ValueFronts
+pub mod LineFronts
+pub mod OneReading
+pub mod OneText

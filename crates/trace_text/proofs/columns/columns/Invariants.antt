@@ -1,0 +1,7 @@
+use Rattle.std.proofs.Common.{◌≡◌, map, take}
+use Rattle.std.specs.List.{flat_map}
+use Rattle.trace_text.specs.Parts.{cell_of, own_cells}
+use Rattle.trace_text.proofs.columns.columns.Given as goal
+
+abbrev pub invariant-loop-variable : goal.invariant-loop-variable
+invariant-loop-variable l = map cell_of l.columns.items ≡ flat_map own_cells (take l.variable-index l.variables)

@@ -1,0 +1,4 @@
+pub mod Cells
+pub mod Traces
+pub mod Faults
+pub mod Parts

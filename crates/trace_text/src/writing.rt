@@ -1,0 +1,74 @@
+//! The text of a trace is written.
+
+ghost use Rattle.std.specs.Prelude.{◌≡◌, ◌++◌, codes, map, IfOk, OnOk};
+ghost use Rattle.trace_text.specs.Cells.{input_cells};
+ghost use Rattle.hll_meaning.specs.Declarations.{names};
+ghost use Rattle.hll_meaning.specs.StaticRules.{Well};
+ghost use Rattle.trace_text.specs.Parts.{cell_of};
+ghost use Rattle.trace_text.specs.Traces.{cells_text, line_text, rows_of, trace_text, AreValues, IsTrace};
+
+use crate::columns::{Column, columns};
+use crate::spelling::push_number;
+use crate::trace::Trace;
+use crate::values::push_value;
+use hll_types::Checked;
+use std::alloc::{AllocError, Global};
+
+/// Appends cells with their values.
+fn push_cells(
+    out: &mut Vec<u8>,
+    checked: &Checked,
+    columns: &[Column],
+    values: &[i128],
+) -> Result<(), AllocError>
+    requires well { Well checked.now }
+    requires values { AreValues (map cell_of columns.now) values.now }
+    ensures { OnOk result (out.new.items ≡ out.old.items ++ cells_text (names checked.now) (map cell_of columns.now) values.now) }
+{
+    for (column, value) in columns.iter().zip(values) {
+        out.extend_from_slice(b" ")?;
+        out.extend_from_slice(column.name.bytes())?;
+        out.extend_from_slice(b"=")?;
+        push_value(out, checked, &column.values, *value)?;
+    }
+    Ok(())
+}
+
+/// Appends the line of an instant.
+fn push_line(
+    out: &mut Vec<u8>,
+    checked: &Checked,
+    columns: &[Column],
+    instant: u64,
+    values: &[i128],
+) -> Result<(), AllocError>
+    requires well { Well checked.now }
+    requires values { AreValues (map cell_of columns.now) values.now }
+    ensures { OnOk result (out.new.items ≡ out.old.items ++ line_text (names checked.now) (map cell_of columns.now) instant values.now) }
+{
+    push_number(out, instant)?;
+    out.extend_from_slice(b":")?;
+    push_cells(out, checked, columns, values)?;
+    out.extend_from_slice(b"\n")
+}
+
+/// The text of a trace.
+pub fn write_trace(alloc: Global, checked: &Checked, trace: &Trace) -> Result<Vec<u8>, AllocError>
+    requires { IsTrace checked.now (rows_of trace.now) }
+    ensures { IfOk result (λ bytes. bytes.items ≡ trace_text checked.now (rows_of trace.now)) }
+{
+    // A text that is checked is without faults.
+    let _ = checked.model();
+    let columns = columns(alloc, checked)?;
+    let mut out = Vec::new(alloc);
+    for (instant, row) in trace.rows.iter().enumerate() {
+        push_line(
+            &mut out,
+            checked,
+            columns.as_slice(),
+            instant as u64,
+            row.as_slice(),
+        )?;
+    }
+    Ok(out)
+}
