@@ -25,55 +25,55 @@ const VARIABLES: &[(&[u8], u64, Role)] = &[
     (b"next", 253, Role::Value),
 ];
 
-/// Texts with names, and what they are worth.
-const VALUES: &[(&[u8], &[u8], Option<i128>)] = &[
-    (IN_ORDER, b"N", Some(3)),
-    (IN_ORDER, b"M", Some(-2)),
-    (IN_ORDER, b"yes", Some(1)),
-    (IN_ORDER, b"no", Some(0)),
-    (IN_ORDER, b"a", Some(0)),
-    (IN_ORDER, b"b", Some(1)),
-    (IN_ORDER, b"c", Some(2)),
-    (IN_ORDER, b"go", Some(1)),
-    (IN_ORDER, b"U", None),
-    (IN_ORDER, b"level", None),
-    (IN_ORDER, b"track", None),
-    (IN_ORDER, b"nothing", None),
-    (TURNED, b"c", Some(0)),
-    (TURNED, b"a", Some(1)),
-    (TURNED, b"b", Some(2)),
+/// Names, and what they are worth, with the children in order or turned.
+const VALUES: &[(bool, &[u8], Option<i128>)] = &[
+    (false, b"N", Some(3)),
+    (false, b"M", Some(-2)),
+    (false, b"yes", Some(1)),
+    (false, b"no", Some(0)),
+    (false, b"a", Some(0)),
+    (false, b"b", Some(1)),
+    (false, b"c", Some(2)),
+    (false, b"go", Some(1)),
+    (false, b"U", None),
+    (false, b"level", None),
+    (false, b"track", None),
+    (false, b"nothing", None),
+    (true, b"c", Some(0)),
+    (true, b"a", Some(1)),
+    (true, b"b", Some(2)),
 ];
 
-/// Texts with names, and the roots and ends of their types: a range has no root.
-const TYPES: &[(&[u8], &[u8], Option<(&[u8], i128, i128)>)] = &[
-    (IN_ORDER, b"S", Some((b"U", 0, 1))),
-    (IN_ORDER, b"T", Some((b"U", 2, 2))),
-    (IN_ORDER, b"U", Some((b"U", 0, 2))),
-    (IN_ORDER, b"Aspect", Some((b"Aspect", 0, 1))),
-    (IN_ORDER, b"Digit", Some((b"", 0, 9))),
-    (IN_ORDER, b"N", None),
-    (IN_ORDER, b"a", None),
-    (IN_ORDER, b"level", None),
-    (IN_ORDER, b"nothing", None),
-    (TURNED, b"S", Some((b"U", 1, 2))),
-    (TURNED, b"T", Some((b"U", 0, 0))),
+/// Names, and the roots and ends of their types: a range has no root.
+const TYPES: &[(bool, &[u8], Option<(&[u8], i128, i128)>)] = &[
+    (false, b"S", Some((b"U", 0, 1))),
+    (false, b"T", Some((b"U", 2, 2))),
+    (false, b"U", Some((b"U", 0, 2))),
+    (false, b"Aspect", Some((b"Aspect", 0, 1))),
+    (false, b"Digit", Some((b"", 0, 9))),
+    (false, b"N", None),
+    (false, b"a", None),
+    (false, b"level", None),
+    (false, b"nothing", None),
+    (true, b"S", Some((b"U", 1, 2))),
+    (true, b"T", Some((b"U", 0, 0))),
 ];
 
-/// Texts with roots and codes, and the elements that have them.
-const ELEMENTS: &[(&[u8], &[u8], u64, Option<&[u8]>)] = &[
-    (IN_ORDER, b"U", 0, Some(b"a")),
-    (IN_ORDER, b"U", 1, Some(b"b")),
-    (IN_ORDER, b"U", 2, Some(b"c")),
-    (IN_ORDER, b"U", 3, None),
-    (IN_ORDER, b"S", 0, None),
-    (IN_ORDER, b"Aspect", 0, Some(b"stop")),
-    (IN_ORDER, b"Aspect", 1, Some(b"go")),
-    (IN_ORDER, b"Aspect", 2, None),
-    (IN_ORDER, b"a", 0, None),
-    (IN_ORDER, b"nothing", 0, None),
-    (TURNED, b"U", 0, Some(b"c")),
-    (TURNED, b"U", 1, Some(b"a")),
-    (TURNED, b"U", 2, Some(b"b")),
+/// Roots and codes, and the elements that have them.
+const ELEMENTS: &[(bool, &[u8], u64, Option<&[u8]>)] = &[
+    (false, b"U", 0, Some(b"a")),
+    (false, b"U", 1, Some(b"b")),
+    (false, b"U", 2, Some(b"c")),
+    (false, b"U", 3, None),
+    (false, b"S", 0, None),
+    (false, b"Aspect", 0, Some(b"stop")),
+    (false, b"Aspect", 1, Some(b"go")),
+    (false, b"Aspect", 2, None),
+    (false, b"a", 0, None),
+    (false, b"nothing", 0, None),
+    (true, b"U", 0, Some(b"c")),
+    (true, b"U", 1, Some(b"a")),
+    (true, b"U", 2, Some(b"b")),
 ];
 
 /// Numbers, truth values and operators at their places.
@@ -110,6 +110,11 @@ fn checked_of(alloc: Global, text: &[u8]) -> Result<Checked, Fail> {
     }
 }
 
+/// The text with the children of the sort in order, or turned.
+fn sorted(alloc: Global, turned: bool) -> Result<Checked, Fail> {
+    checked_of(alloc, if turned { TURNED } else { IN_ORDER })
+}
+
 /// The root and the ends of a scalar type.
 fn ends_of(ty: &Ty) -> Option<(&[u8], i128, i128)> {
     match ty {
@@ -137,20 +142,27 @@ fn variables_have_places_and_roles(rt: HostRuntime) -> Result<(), Fail> {
 }
 
 #[test]
-fn names_have_values_types_and_elements(rt: HostRuntime) -> Result<(), Fail> {
-    for &(text, name, value) in VALUES {
-        assert_eq!(rt;
-            checked_of(rt.alloc(), text)?.value_of(name),
-            value,
-            "{name:?}"
-        );
+fn constants_and_elements_have_their_numbers(rt: HostRuntime) -> Result<(), Fail> {
+    for &(turned, name, value) in VALUES {
+        let checked = sorted(rt.alloc(), turned)?;
+        assert_eq!(rt; checked.value_of(name), value, "{name:?}");
     }
-    for &(text, name, ends) in TYPES {
-        let checked = checked_of(rt.alloc(), text)?;
+    Ok(())
+}
+
+#[test]
+fn types_have_their_roots_and_ends(rt: HostRuntime) -> Result<(), Fail> {
+    for &(turned, name, ends) in TYPES {
+        let checked = sorted(rt.alloc(), turned)?;
         assert_eq!(rt; checked.type_of(name).and_then(ends_of), ends, "{name:?}");
     }
-    for &(text, root, code, element) in ELEMENTS {
-        let checked = checked_of(rt.alloc(), text)?;
+    Ok(())
+}
+
+#[test]
+fn roots_have_their_elements(rt: HostRuntime) -> Result<(), Fail> {
+    for &(turned, root, code, element) in ELEMENTS {
+        let checked = sorted(rt.alloc(), turned)?;
         let found = checked.element_of(root, code).map(|word| word.bytes());
         assert_eq!(rt; found, element, "{root:?} {code}");
     }
