@@ -5,6 +5,7 @@ pub mod Agreement
 pub mod Values
 pub mod Declarations
 pub mod Runs
+pub mod Cells
 pub mod Fitting
 pub mod Judging
 pub mod StaticRules

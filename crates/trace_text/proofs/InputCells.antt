@@ -16,7 +16,7 @@ use Rattle.hll_meaning.specs.Types.{kind_of}
 use Rattle.hll_meaning.specs.Declarations.{names}
 use Rattle.hll_meaning.specs.Runs.{definitions, variables_among}
 use Rattle.hll_meaning.specs.StaticRules.{definitions_of, part_kind}
-use Rattle.trace_text.specs.Cells.{Cell, named_cells, field_cells, cells_of_all, text_cells, input_kind, input_cells}
+use Rattle.hll_meaning.specs.Cells.{Cell, named_cells, field_cells, cells_of_all, text_cells, input_kind, input_cells}
 use Rattle.hll_meaning.proofs.AreIn.{copies, copies_more, copies_none, repeated_copies}
 use Rattle.hll_types.specs.declared.variables.Role.{Role}
 use Rattle.hll_types.specs.declared.variables.Role.TheVariants as role

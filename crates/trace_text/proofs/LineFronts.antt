@@ -9,7 +9,7 @@ use Rattle.hll_tree.specs.declared.tree.HllModel.{HllModel}
 use Rattle.hll_tree.specs.Printing.{Text}
 use Rattle.hll_meaning.specs.Names.{Names}
 use Rattle.hll_meaning.specs.Declarations.{names}
-use Rattle.trace_text.specs.Cells.{Cell, input_cells, text_cells}
+use Rattle.hll_meaning.specs.Cells.{Cell, input_cells, text_cells}
 use Rattle.trace_text.specs.declared.columns.Column.{Column}
 use Rattle.trace_text.specs.declared.fault.TraceKind.{TraceKind}
 use Rattle.trace_text.specs.declared.fault.TraceKind.TheVariants as wrong

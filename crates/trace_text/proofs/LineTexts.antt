@@ -4,7 +4,7 @@ use Rattle.std.specs.List.{AllByRecursion}
 use Rattle.std.proofs.lemmas.List.{append-nil}
 use Rattle.hll_tree.specs.Printing.{Text}
 use Rattle.hll_meaning.specs.Names.{Names}
-use Rattle.trace_text.specs.Cells.{Cell}
+use Rattle.hll_meaning.specs.Cells.{Cell}
 use Rattle.trace_text.specs.declared.columns.Column.{Column}
 use Rattle.trace_text.specs.Parts.{cell_of}
 use Rattle.trace_text.specs.Traces.{cells_text, line_text, lines_text}

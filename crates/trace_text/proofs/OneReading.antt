@@ -10,7 +10,7 @@ use Rattle.hll_tree.specs.Printing.{Text}
 use Rattle.hll_meaning.specs.Kinds.{Kind, truth, whole, element, array, struct, IsOf}
 use Rattle.hll_meaning.specs.Declarations.{names}
 use Rattle.hll_meaning.specs.StaticRules.{Well}
-use Rattle.trace_text.specs.Cells.{Cell}
+use Rattle.hll_meaning.specs.Cells.{Cell}
 use Rattle.trace_text.specs.declared.fault.TraceKind.{TraceKind}
 use Rattle.trace_text.specs.declared.fault.TraceKind.TheVariants as wrong
 use Rattle.trace_text.specs.Parts.{IsShort, StandsName}

@@ -8,7 +8,7 @@ use Rattle.hll_tree.specs.declared.tree.HllModel.{HllModel}
 use Rattle.hll_tree.specs.Printing.{Text}
 use Rattle.hll_meaning.specs.Declarations.{names}
 use Rattle.hll_meaning.specs.StaticRules.{Well}
-use Rattle.trace_text.specs.Cells.{Cell, input_cells}
+use Rattle.hll_meaning.specs.Cells.{Cell, input_cells}
 use Rattle.trace_text.specs.declared.fault.TraceKind.{TraceKind}
 use Rattle.trace_text.specs.declared.fault.TraceKind.TheVariants as wrong
 use Rattle.trace_text.specs.Traces.{cells_text, line_text, lines_text, AreFew, AreValues, Spells}

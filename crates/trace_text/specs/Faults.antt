@@ -9,7 +9,7 @@ use Rattle.hll_tree.specs.Printing.{Text}
 use Rattle.hll_meaning.specs.Kinds.{Kind, IsOf}
 use Rattle.hll_meaning.specs.Names.{Names}
 use Rattle.hll_meaning.specs.Declarations.{names}
-use Rattle.trace_text.specs.Cells.{Cell, input_cells}
+use Rattle.hll_meaning.specs.Cells.{Cell, input_cells}
 use Rattle.trace_text.specs.declared.fault.TraceFault.{TraceFault}
 use Rattle.trace_text.specs.declared.fault.TraceFault.TheVariants as answer
 use Rattle.trace_text.specs.declared.fault.TraceKind.{TraceKind}

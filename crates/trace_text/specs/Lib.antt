@@ -1,4 +1,3 @@
-pub mod Cells
 pub mod Traces
 pub mod Faults
 pub mod Parts

@@ -10,7 +10,7 @@ use Rattle.hll_meaning.specs.Kinds.{Kind, truth, whole, element, Fields}
 use Rattle.hll_meaning.specs.Names.{Names}
 use Rattle.hll_meaning.specs.Types.{ends, fields_of, kind_of}
 use Rattle.hll_meaning.specs.Declarations.{names}
-use Rattle.trace_text.specs.Cells.{Cell, input_cells, named_cells}
+use Rattle.hll_meaning.specs.Cells.{Cell, input_cells, named_cells}
 use Rattle.hll_types.specs.declared.variables.Role.{Role}
 use Rattle.hll_types.specs.declared.variables.Role.TheVariants as role
 use Rattle.hll_types.specs.declared.variables.Variable.{Variable}

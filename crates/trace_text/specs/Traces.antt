@@ -9,7 +9,7 @@ use Rattle.hll_tree.specs.Printing.{Text, name_text}
 use Rattle.hll_meaning.specs.Kinds.{Kind, truth, whole, element, array, struct, IsOf}
 use Rattle.hll_meaning.specs.Names.{Thing, constant, type_of, code_in, variable, later, Names}
 use Rattle.hll_meaning.specs.Declarations.{names}
-use Rattle.trace_text.specs.Cells.{Cell, input_cells, text_cells}
+use Rattle.hll_meaning.specs.Cells.{Cell, input_cells, text_cells}
 use Rattle.trace_text.specs.declared.trace.Trace.{Trace}
 
 -- ---- values

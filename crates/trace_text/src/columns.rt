@@ -2,7 +2,7 @@
 
 ghost use Rattle.std.specs.Prelude.{◌≡◌, ◌++◌, ◌∷◌, [], codes, decimal, map, IfOk, OnOk};
 ghost use Rattle.hll_tree.specs.Printing.{name_text};
-ghost use Rattle.trace_text.specs.Cells.{field_cells, input_cells, named_cells};
+ghost use Rattle.hll_meaning.specs.Cells.{field_cells, input_cells, named_cells};
 ghost use Rattle.hll_meaning.specs.Kinds.{array};
 ghost use Rattle.hll_meaning.specs.Types.{kind_of};
 ghost use Rattle.trace_text.specs.Parts.{cell_of, fields_kinds, kind_of_values, own_cells};

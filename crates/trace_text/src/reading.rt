@@ -1,7 +1,7 @@
 //! The text of a trace is read, line by line.
 
 ghost use Rattle.std.specs.Prelude.{◌≡◌, ◌+◌, ◌≤◌, ◌<◌, ◌++◌, codes, decimal, length, map, MatchOption, MatchResult};
-ghost use Rattle.trace_text.specs.Cells.{input_cells, text_cells};
+ghost use Rattle.hll_meaning.specs.Cells.{input_cells, text_cells};
 ghost use Rattle.hll_meaning.specs.Declarations.{names};
 ghost use Rattle.hll_meaning.specs.StaticRules.{Well};
 ghost use Rattle.trace_text.specs.Faults.{IsFaultOf, Never};

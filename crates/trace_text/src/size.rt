@@ -1,7 +1,7 @@
 //! How many cells the variables of a text have, and how long a trace may be.
 
 ghost use Rattle.std.specs.Prelude.{◌≡◌, ◌+◌, ◌^◌, ◌<◌, ◌≤◌, ◌*◌, ◌↔◌, IsTrue, length};
-ghost use Rattle.trace_text.specs.Cells.{text_cells};
+ghost use Rattle.hll_meaning.specs.Cells.{text_cells};
 ghost use Rattle.hll_meaning.specs.Kinds.{cells, field_ranges};
 ghost use Rattle.hll_meaning.specs.Types.{kind_of};
 ghost use Rattle.trace_text.specs.Parts.{capped, fields_kinds};

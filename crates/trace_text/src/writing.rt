@@ -1,7 +1,7 @@
 //! The text of a trace is written.
 
 ghost use Rattle.std.specs.Prelude.{◌≡◌, ◌++◌, codes, map, IfOk, OnOk};
-ghost use Rattle.trace_text.specs.Cells.{input_cells};
+ghost use Rattle.hll_meaning.specs.Cells.{input_cells};
 ghost use Rattle.hll_meaning.specs.Declarations.{names};
 ghost use Rattle.hll_meaning.specs.StaticRules.{Well};
 ghost use Rattle.trace_text.specs.Parts.{cell_of};

@@ -2,7 +2,7 @@ use Rattle.std.proofs.Common.{◌≡◌, ◌+◌, [], ◌∷◌, ◌++◌, map, 
 use Rattle.std.specs.Prelude.{codes, decimal, OnOk}
 use Rattle.std.proofs.lemmas.List.{append-nil, take_more}
 use Rattle.hll_tree.specs.Printing.{name_text}
-use Rattle.trace_text.specs.Cells.{field_cells, named_cells}
+use Rattle.hll_meaning.specs.Cells.{field_cells, named_cells}
 use Rattle.hll_meaning.specs.Kinds.{array, element, struct, Kind}
 use Rattle.hll_meaning.specs.Types.{ends, kind_of}
 use Rattle.hll_meaning.proofs.KindForms.{kind_of_bool, kind_of_int, kind_of_elem, kind_of_array, kind_of_struct}

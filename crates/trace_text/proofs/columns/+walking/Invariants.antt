@@ -1,5 +1,5 @@
 use Rattle.std.proofs.Common.{◌≡◌, ◌++◌, map, take}
-use Rattle.trace_text.specs.Cells.{field_cells, named_cells}
+use Rattle.hll_meaning.specs.Cells.{field_cells, named_cells}
 use Rattle.hll_meaning.specs.Kinds.{array}
 use Rattle.hll_meaning.specs.Types.{kind_of}
 use Rattle.trace_text.specs.Parts.{cell_of, fields_kinds}

@@ -1,5 +1,5 @@
 use Rattle.std.proofs.Common.{List, refl, subst}
-use Rattle.trace_text.specs.Cells.{Cell}
+use Rattle.hll_meaning.specs.Cells.{Cell}
 use Rattle.hll_meaning.specs.Declarations.{names}
 use Rattle.trace_text.specs.Parts.{AreRead, AreUnread}
 use Rattle.trace_text.proofs.LineFronts.{few_held, line_read, line_wrong, match_err}

@@ -1,5 +1,5 @@
 use Rattle.std.proofs.Common.{◌≡◌, ◌<◌, ◌≤◌, ◌++◌, ℤ, List, map, length, get_or, sym, ap, subst, ◌∙◌}
-use Rattle.trace_text.specs.Cells.{Cell, input_cells}
+use Rattle.hll_meaning.specs.Cells.{Cell, input_cells}
 use Rattle.hll_meaning.specs.Declarations.{names}
 use Rattle.trace_text.specs.Parts.{cell_of}
 use Rattle.trace_text.specs.Traces.{line_text, trace_text, rows_of, AreValues}

@@ -1,5 +1,5 @@
 use Rattle.std.proofs.Common.{◌≡◌, ◌++◌, drop}
-use Rattle.trace_text.specs.Cells.{input_cells}
+use Rattle.hll_meaning.specs.Cells.{input_cells}
 use Rattle.hll_meaning.specs.Declarations.{names}
 use Rattle.trace_text.specs.Traces.{lines_text, rows_of}
 use Rattle.trace_text.proofs.writing.write_trace.Given as goal
