@@ -6,4 +6,3 @@ pub mod Marks
 pub mod Occurrences
 pub mod Closing
 pub mod Containment
-pub mod Replays

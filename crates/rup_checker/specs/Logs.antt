@@ -1,5 +1,5 @@
 -- Logs of steps: accepted ones, busy ones, and 1-empowering steps.
-use Rattle.std.specs.Prelude.{◌≡◌, ◌≢◌, ◌<◌, ℕ, ℤ, neg_ℤ, List, [], ◌∷◌, ◌++◌, length, map, take, All, Contains, IsSomeAnd, slice_get, ⊤}
+use Rattle.std.specs.Prelude.{◌≡◌, ◌≢◌, ◌<◌, ◌≤◌, ℕ, ℤ, neg_ℤ, List, [], ◌∷◌, ◌++◌, length, map, take, All, Contains, IsSomeAnd, slice_get, ⊤}
 use Rattle.rup_checker.specs.declared.fault.LogFault.{LogFault}
 use Rattle.rup_checker.specs.declared.fault.LogFault.TheVariants as fault
 use Rattle.rup_checker.specs.declared.fault.StepFault.{StepFault}
@@ -56,6 +56,15 @@ pub record IsNew (clauses : List (List ℤ)) (clause : List ℤ) : Type 0 where
 -- no hints make the empty clause a step: unit propagation reaches no false clause
 abbrev pub IsOpen : List (List ℤ) → Type 0
 IsOpen clauses = (hints : List ℕ) → ¬ (Refutes clauses [] hints)
+
+-- each clause from this number on is new among those before it
+abbrev pub AreNewFrom : List (List ℤ) → ℕ → Type 0
+AreNewFrom clauses from = (n : ℕ) → from ≤ n → n < length clauses → IsSomeAnd (slice_get clauses n) (IsNew (take n clauses))
+
+-- and with all clauses unit propagation reaches no false clause
+pub record IsBusyFrom (clauses : List (List ℤ)) (from : ℕ) : Type 0 where
+  pub new : AreNewFrom clauses from
+  pub open_end : IsOpen clauses
 
 -- every step is accepted and is new, and with all steps unit propagation still reaches no false clause
 pub record IsBusy (f : Cnf) (steps : List Step) : Type 0 where

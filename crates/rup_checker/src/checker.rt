@@ -1,10 +1,12 @@
-ghost use Rattle.std.specs.Prelude.{◌≡◌, ◌+◌, ◌<◌, ◌≤◌, ◌++◌, ◌∷◌, [], IfOk, OnOk, OnErr, All, length};
+ghost use Rattle.std.specs.Prelude.{◌≡◌, ◌↔◌, ◌+◌, ◌<◌, ◌≤◌, ◌++◌, ◌∷◌, [], IsTrue, IfOk, OnOk, OnErr, All, length};
 ghost use Rattle.rup_checker.specs.Formulas.{IsLiteral};
 ghost use Rattle.rup_checker.specs.Steps.{IsAnswered};
+ghost use Rattle.rup_checker.specs.Logs.{IsBusyFrom};
 
 use crate::derivation::Derivation;
 use crate::fault::StepFault;
 use crate::formula::Formula;
+use crate::replay::is_busy;
 use std::alloc::{AllocError, Global};
 use std::marker::Model;
 
@@ -77,5 +79,13 @@ impl Checker {
         ensures literals_kept { OnErr result (self.old.spare_literals ≤ self.new.spare_literals) }
     {
         self.derivation.step(&self.formula, clause, hints)
+    }
+
+    /// Whether the clauses from this number on are busy. It costs what `busy` costs for a log of these clauses.
+    pub fn is_busy(&self, alloc: Global, from: usize) -> Result<bool, AllocError>
+        requires { from ≤ length self.now.clauses }
+        ensures { IfOk result (λ yes. IsTrue yes ↔ IsBusyFrom self.now.clauses from) }
+    {
+        is_busy(alloc, self.derivation.known(&self.formula), from)
     }
 }

@@ -1,11 +1,11 @@
 //! What the definitions mean. Each law is a function with an empty body.
 
-ghost use Rattle.std.specs.Prelude.{◌≡◌, ◌⊎◌, ℕ, ℤ, List, true, All, Any};
+ghost use Rattle.std.specs.Prelude.{◌≡◌, ◌↔◌, ◌⊎◌, ℕ, ℤ, List, true, length, All, Any};
 ghost use Rattle.rup_checker.specs.declared.fault.StepFault.{StepFault};
 ghost use Rattle.rup_checker.specs.declared.log.Step.{Step};
 ghost use Rattle.rup_checker.specs.Formulas.{Cnf, IsLiteral, Assignment, truth, Satisfies, IsUnsatisfiable};
 ghost use Rattle.rup_checker.specs.Steps.{IsAccepted, IsRefused};
-ghost use Rattle.rup_checker.specs.Logs.{Accepts};
+ghost use Rattle.rup_checker.specs.Logs.{known, AreAccepted, Accepts, IsBusy, IsBusyFrom};
 
 /// Every assignment that satisfies the clauses satisfies each accepted step.
 pub fn accepted_step_follows()
@@ -30,4 +30,9 @@ pub fn accepted_is_not_refused()
 pub fn one_refusal()
     ensures { (variables : ℕ) (clauses : List (List ℤ)) (clause : List ℤ) (hints : List ℕ) (one other : StepFault) →
         IsRefused variables clauses clause hints one → IsRefused variables clauses clause hints other → one ≡ other }
+{}
+
+/// A log whose steps are accepted is busy exactly where their clauses are, among all that are known then.
+pub fn busy_by_clauses()
+    ensures { (f : Cnf) (steps : List Step) → AreAccepted f steps → IsBusyFrom (known f steps) (length f.clauses) ↔ IsBusy f steps }
 {}

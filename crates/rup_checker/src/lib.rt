@@ -25,7 +25,10 @@ pub use checker::Checker;
 pub use closing::ended_propagation_is_open;
 pub use fault::{LogFault, StepFault};
 pub use formula::{Formula, MAX_VARIABLES};
-pub use law::{accepted_is_not_refused, accepted_log_refutes, accepted_step_follows, one_refusal};
+pub use law::{
+    accepted_is_not_refused, accepted_log_refutes, accepted_step_follows, busy_by_clauses,
+    one_refusal,
+};
 pub use log::{Log, Step};
 pub use replay::busy;
 pub use store::Store;

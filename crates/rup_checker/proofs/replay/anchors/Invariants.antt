@@ -4,6 +4,6 @@ use Rattle.rup_checker.proofs.replay.anchors.Given as goal
 
 abbrev pub invariant-loop-number : goal.invariant-loop-number
 invariant-loop-number l = record {
-  variables : l.anchors.occurrences.variables ≡ l.formula.variables;
-  anchored : AreAnchored l.formula.clauses l.number l.anchors;
+  variables : l.anchors.occurrences.variables ≡ l.known.variables;
+  anchored : AreAnchored l.known.clauses l.number l.anchors;
 }
