@@ -1,20 +1,17 @@
 -- Logs whose steps are taken one by one.
-use Rattle.std.proofs.Common.{◌≡◌, ℕ, ◌+◌, ◌<◌, Bool, false, List, [], ◌∷◌, ◌++◌, length, take, get_or, Ok, Err, refl, sym, ap, subst, ◌∙◌, inl, inr, ◌⊎◌, arith}
-use Rattle.std.specs.Prelude.{ℤ, ◌↔◌, IsTrue, Result, OnOk}
+use Rattle.std.proofs.Common.{◌≡◌, ℕ, Bool, true, false, List, [], ◌∷◌, ◌++◌, length, Ok, Err, refl, sym, ap, ◌∙◌, inl, inr, arith}
+use Rattle.std.specs.Prelude.{ℤ, ◌==◌, ◌↔◌, IsTrue, Result, OnOk}
 use Rattle.std.proofs.lemmas.Bool.{false≢true}
+use Rattle.std.proofs.lemmas.Bool.Decides.{nat_tests}
 use Rattle.std.proofs.lemmas.List.{append-nil, length-append}
 use Rattle.rup_checker.specs.declared.fault.StepFault.{StepFault}
-use Rattle.rup_checker.specs.declared.fault.StepFault.TheVariants as fault
 use Rattle.rup_checker.specs.declared.log.Step.{Step}
 use Rattle.rup_checker.specs.Formulas.{Cnf}
-use Rattle.rup_checker.specs.Steps.{IsAccepted, IsRefused, IsAnswered}
+use Rattle.rup_checker.specs.Steps.{IsAccepted, IsAnswered}
 use Rattle.rup_checker.specs.Stores.{Known}
-use Rattle.rup_checker.specs.Logs.{known, AreAccepted, IsEnded}
-use Rattle.rup_checker.proofs.LogLemmas.{known-push, each-push, each-nil, accepted-same, refused-same, first-refused}
-use Rattle.evidence.specs.declared.claim.ClaimFault.{ClaimFault}
-use Rattle.evidence.specs.declared.claim.ClaimFault.TheVariants as claim
-use Rattle.evidence.specs.Refusals.{IsStepCause}
-use Rattle.evidence.specs.Claims.{IsStopped, HasTaken, TakesStep, TakesSteps}
+use Rattle.rup_checker.specs.Logs.{known, IsEnded}
+use Rattle.rup_checker.proofs.LogLemmas.{known-push, each-push, each-nil, accepted-same, refused-same}
+use Rattle.evidence.specs.Claims.{HasTaken, TakesStep}
 
 -- ---- a checker
 
@@ -55,26 +52,20 @@ same_last (z ∷ xs) (w ∷ ys) x y e = let rest : xs ++ x ∷ [] ≡ ys ++ y �
 pub none_ended : IsTrue false ↔ IsEnded []
 none_ended = (λ no. absurd (false≢true no), λ ended. absurd (no_last ended.before ended.last ended.split))
 
+no_items : (xs : List ℤ) → length xs ≡ 0 → xs ≡ []
+no_items [] e = refl
+no_items (x ∷ xs) e = absurd (omega (arith, e))
+
+-- a list is empty where its length is 0
+pub is_nothing : (xs : List ℤ) (none : Bool) → none ≡ (length xs == 0) → IsTrue none ↔ (xs ≡ [])
+is_nothing xs none e = (
+  λ is. let test : (length xs == 0) ≡ true = sym e ∙ is in let zero : length xs ≡ 0 = grind (arith, nat_tests) in no_items xs zero,
+  λ same. e ∙ ap (λ (ys : List ℤ). length ys == 0) same,
+)
+
 -- the last step is the empty clause where the one that came is
 pub step_ended : (steps : List Step) (s : Step) (is_empty : Bool) → IsTrue is_empty ↔ (s.clause ≡ []) → IsTrue is_empty ↔ IsEnded (steps ++ s ∷ [])
 step_ended steps s is_empty empty = (
   λ yes. record { before = steps; last = s; split = refl; empty = empty.0 yes },
   λ ended. empty.1 (ap (λ (t : Step). t.clause) (same_last steps ended.before s ended.last ended.split) ∙ ended.empty),
 )
-
--- ---- all steps of a log
-
--- the answer for a step that isn't taken
-pub step_stopped : (f : Cnf) (at : ℕ) (steps : List Step) (i : ℕ) (d : Step) (stop : StepFault) (line : ℕ) (answer : ClaimFault) → i < length steps → line ≡ at + i + 1 → IsStopped stop line answer
-    → AreAccepted f (take i steps) → IsRefused f.variables (known f (take i steps)) (get_or steps i d).clause (get_or steps i d).hints stop ⊎ (stop ≡ fault.Memory) → TakesSteps f at steps (Err answer)
-step_stopped f at steps i d stop line claim.Memory within place stopped accepted refused = tt
-step_stopped f at steps i d stop line (claim.Refused l why) within place stopped accepted refused = elim refused [
-  | inl step ↦ record {
-    n = i;
-    place = stopped.0 ∙ place;
-    stop = stop;
-    named = stopped.1;
-    refused = first-refused f steps i d stop within accepted step;
-  }
-  | inr memory ↦ absurd (subst (λ (s : StepFault). IsStepCause s why) memory stopped.1)
-]

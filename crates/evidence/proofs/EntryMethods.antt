@@ -31,9 +31,9 @@ use Rattle.evidence.proofs.RestLines.{entry_by, none, some}
 
 -- ---- the line of the parts
 
-begun_judging : (h : Header) (said : EqualLine) (c : Claims) → c.depth ≡ h.depth → c.conflicts ≡ h.conflicts → c.place ≡ place.Parts said 0 → c.left ≡ 0 → c.steps ≡ [] → Facts h c.miter
-    → IsSmallFormula (line_instants said) (length c.miter.lll.signals) → IsJudging h (Parts said []) c
-begun_judging h said c depth conflicts at left steps f small = record {
+begun_judging : (h : Header) (said : EqualLine) (c : Claims) → c.depth ≡ h.depth → c.conflicts ≡ h.conflicts → c.place ≡ place.Parts said 0 → c.left ≡ 0 → Facts h c.miter
+    → IsSmallFormula (line_instants said) (length c.miter.lll.signals) → IsJudging h (Parts said []) [] c
+begun_judging h said c depth conflicts at left f small = record {
   judged = record {
     depth = depth;
     conflicts = conflicts;
@@ -46,13 +46,13 @@ begun_judging h said c depth conflicts at left steps f small = record {
     hold = record { small = small; logs_hold = λ n lt. absurd (omega (arith, lt)) };
   };
   log_at = λ some. absurd (omega (arith, left, some));
-  lines = λ some. absurd (omega (arith, left, some));
-  closed = λ _. steps;
+  tracked = λ some. absurd (omega (arith, left, some));
+  closed = λ _. refl;
 }
 
-pub begun : (h : Header) (said : EqualLine) (c : Claims) → c.depth ≡ h.depth → c.conflicts ≡ h.conflicts → c.place ≡ place.Parts said 0 → c.left ≡ 0 → c.steps ≡ [] → Facts h c.miter
+pub begun : (h : Header) (said : EqualLine) (c : Claims) → c.depth ≡ h.depth → c.conflicts ≡ h.conflicts → c.place ≡ place.Parts said 0 → c.left ≡ 0 → Facts h c.miter
     → IsSmallFormula (line_instants said) (length c.miter.lll.signals) → IsJudged h (Parts said []) 0 [] c
-begun h said c depth conflicts at left steps f small = record { judging = begun_judging h said c depth conflicts at left steps f small; left_is = left; steps_are = steps }
+begun h said c depth conflicts at left f small = record { judging = begun_judging h said c depth conflicts at left f small; left_is = left }
 
 pub refused_parts : (h : Header) (said : EqualLine) (m : MiterLll) (at : ℕ) → Facts h m → at ≡ line_after (header_text h) → ¬ (IsSmallFormula (line_instants said) (length m.lll.signals)) → IsRefused h (Parts said []) at cause.Size
 refused_parts h said m at f begins large = λ e has begun.
@@ -138,10 +138,10 @@ module _ (a : Lll) (c : Claims) (number : ℕ) (v : Verdict) (x : Expects a c nu
 
   -- its formulas are too large
   pub entry_refused : ¬ (IsSmallFormula (verdict_instants c.depth v) (length a.signals)) → IsRefused x.h (with_entry x.s v) number cause.Size
-  entry_refused large = refused_entry x.h c.miter x.s v number (facts_of x.h x.s c x.judging.judged) ready (after_shown x.h x.s c number entry_left x.at) (λ small. large (small_back small))
+  entry_refused large = refused_entry x.h c.miter x.s v number (facts_of x.h x.s c x.judging.judged) ready (after_shown x.h x.s c number x.steps entry_left x.at) (λ small. large (small_back small))
 
   -- they aren't
-  pub entry_turn : (at : Place) (rows : List (List Bool)) → IsSmallFormula (verdict_instants c.depth v) (length a.signals) → at ≡ place_in_entry c.place v → rows ≡ [] → IsJudged x.h (with_entry x.s v) c.left c.steps (in_next c at rows)
+  pub entry_turn : (at : Place) (rows : List (List Bool)) → IsSmallFormula (verdict_instants c.depth v) (length a.signals) → at ≡ place_in_entry c.place v → rows ≡ [] → IsJudged x.h (with_entry x.s v) c.left x.steps (in_next c at rows)
   entry_turn at rows small there empty =
       let j = x.judging.judged in
       record {
@@ -158,14 +158,13 @@ module _ (a : Lll) (c : Claims) (number : ℕ) (v : Verdict) (x : Expects a c nu
             hold = hold_next x.h c.miter x.s v ready fits_h (small_as small);
           };
           log_at = λ some. absurd (omega (arith, entry_left, some));
-          lines = λ some. absurd (omega (arith, entry_left, some));
+          tracked = λ some. absurd (omega (arith, entry_left, some));
           closed = x.judging.closed;
         };
         left_is = refl;
-        steps_are = refl;
       }
 
 -- ---- the last line
 
-pub end_turn : (a : Lll) (c : Claims) (number : ℕ) (x : Expects a c number line.End) → IsJudged x.h x.s c.left c.steps c
-end_turn a c number x = record { judging = x.judging; left_is = refl; steps_are = refl }
+pub end_turn : (a : Lll) (c : Claims) (number : ℕ) (x : Expects a c number line.End) → IsJudged x.h x.s c.left x.steps c
+end_turn a c number x = record { judging = x.judging; left_is = refl }

@@ -1,5 +1,5 @@
 -- Which of the causes of a log comes first.
-use Rattle.std.proofs.Common.{◌≡◌, ◌≢◌, ℕ, ◌<◌, List, length, take, Err, slice_get, refl, sym, ap, subst, ◌∙◌, inl, inr, arith}
+use Rattle.std.proofs.Common.{◌≡◌, ◌≢◌, ℕ, ◌<◌, List, length, take, slice_get, refl, sym, ap, subst, ◌∙◌, inl, inr, arith}
 use Rattle.std.specs.Prelude.{ℤ, Option, IsSomeAnd}
 use Rattle.std.proofs.lemmas.Bool.{cases_lt}
 use Rattle.rup_checker.specs.declared.fault.StepFault.{StepFault}
@@ -13,9 +13,7 @@ use Rattle.rup_checker.proofs.OneAnswer.{one_prevention, one_outside, outside_st
 use Rattle.evidence.specs.declared.fault.Cause.{Cause}
 use Rattle.evidence.specs.declared.fault.Cause.TheVariants as cause
 use Rattle.evidence.specs.Refusals.{line_after, IsStepCause, StepFails, RefutationFails, SpentLogFails}
-use Rattle.evidence.specs.declared.claim.ClaimFault.{ClaimFault}
-use Rattle.evidence.specs.declared.claim.ClaimFault.TheVariants as claim
-use Rattle.evidence.specs.Claims.{ComesBefore, IsFirstOf, IsFirstStop, TakesSteps, Judges}
+use Rattle.evidence.specs.Claims.{ComesBefore, IsFirstOf, IsFirstStop}
 use Rattle.evidence.proofs.AtOnce.{at_once, some_within, take-get, take-take}
 use Rattle.evidence.proofs.Holding.{step_never_fails}
 
@@ -110,11 +108,6 @@ refutation_unended f front log at begins accepted unended = record {
   ];
 }
 
--- the answer for a log whose steps aren't all taken
-pub refutation_answer : (f : Cnf) (front : List ℕ) (log : Log) (at : ℕ) (Good : Type 0) (e : ClaimFault) → at ≡ line_after front → TakesSteps f at log.steps (Err e) → Judges Good (RefutationFails f front log) (Err e)
-refutation_answer f front log at Good (claim.Refused line why) begins stop = refutation_stops f front log at line why begins stop
-refutation_answer f front log at Good claim.Memory begins stop = tt
-
 -- ---- spent logs
 
 -- it hasn't as many steps as the budget
@@ -157,9 +150,3 @@ spent_idle f budget front log at begins whole accepted idle = record {
     ]
   ];
 }
-
--- the answer for a log whose steps aren't all taken
-pub spent_answer : (f : Cnf) (budget : ℕ) (front : List ℕ) (log : Log) (at : ℕ) (Good : Type 0) (e : ClaimFault) → at ≡ line_after front → length log.steps ≡ budget → TakesSteps f at log.steps (Err e)
-    → Judges Good (SpentLogFails f budget front log) (Err e)
-spent_answer f budget front log at Good (claim.Refused line why) begins whole stop = spent_stops f budget front log at line why begins whole stop
-spent_answer f budget front log at Good claim.Memory begins whole stop = tt

@@ -1,6 +1,6 @@
 -- Judging that keeps step with a reader: a line more, and the end.
 use Rattle.std.proofs.Common.{◌≡◌, ℕ, ◌+◌, ◌*◌, ◌^◌, ◌<◌, ◌≤◌, List, [], ◌++◌, length, Some, None, Ok, Err, refl, sym, ap, subst, ◌∙◌, length-append, arith}
-use Rattle.std.specs.Prelude.{Result, Option, IfOk, codes, nat_lt}
+use Rattle.std.specs.Prelude.{Result, Option, IfOk, OnOk, codes, nat_lt}
 use Rattle.lll_core.specs.declared.lll.Lll.{Lll}
 use Rattle.lll_core.specs.Tables.{input_count}
 use Rattle.std.proofs.lemmas.List.{append-nil}
@@ -30,7 +30,7 @@ use Rattle.evidence.specs.Spelling.{part_count, numbers_text}
 use Rattle.evidence.specs.Summaries.{lines_of, lines_at, lines_said}
 use Rattle.evidence.specs.Rests.{IsRest}
 use Rattle.evidence.specs.Shown.{Header, Shown, Parts, BeginsSo, bare, first_text, header_text, parts_front, shown_after}
-use Rattle.evidence.specs.Judging.{IsDueAfter, left_after, steps_after}
+use Rattle.evidence.specs.Judging.{IsJudging, IsDueAfter, left_after, steps_after}
 use Rattle.evidence.specs.Outcomes.{IsPairing, HasFewParts, PairsAll, IsSoFar, IsJudgedLine, ExpectsLine, JudgesLine, IsAllRead, IsRead}
 use Rattle.evidence.specs.Following.{Follows, FollowsOn, IsLineAfter, FollowsAll, HasFollowed, EndsSo, HasBothModels, header_in, FollowsBoth, due_in_parts, FollowsParts}
 use Rattle.evidence.proofs.FoundParts.{AreBoundsOf}
@@ -59,6 +59,7 @@ judged_line front p j number said a f d at few is = record {
   depth_bound = f.has_bounds.depth_bound;
   due_after = f.due_after;
   is_due = d;
+  steps_fit = f.steps_fit;
   at = at ∙ ap line_after f.spelled;
   few = few;
 }
@@ -107,9 +108,9 @@ ok_more : {X E : Type 0} (P Q : X → Type 0) (result : Result X E) → ((x : X)
 ok_more P Q (Ok x) there h = there x h
 ok_more P Q (Err e) there h = h
 
-pub follows_all : {E : Type 0} (first : Option Lll) (j : Judged) (number : ℕ) (said : Statement) (a : Lll) (result : Result Judged E) → first ≡ Some a → IfOk result (JudgesLine a j number said) → IfOk result (FollowsAll first j number said)
-follows_all first j number said a result is judges =
-    ok_more (JudgesLine a j number said) (FollowsAll first j number said) result (λ now h p same. follows_on p j now number said a (same ∙ is) h) judges
+pub follows_all : {E : Type 0} (first : Option Lll) (j now : Judged) (number : ℕ) (said : Statement) (a : Lll) (result : Result Unit E) → first ≡ Some a → OnOk result (JudgesLine a j number said now) → OnOk result (FollowsAll first j number said now)
+follows_all first j now number said a (Ok done) is judges = λ p same. follows_on p j now number said a (same ∙ is) judges
+follows_all first j now number said a (Err why) is judges = tt
 
 -- ---- the end
 
@@ -123,7 +124,9 @@ is_read j x = let f = x.follows in read_by j f.h f.s f.left f.steps f.so_far
 
 no_steps : (left : ℕ) (steps : List Step) (h : Header) (s : Shown) (j : Judged) → left ≡ 0 → IsSoFar h s left steps j → IsSoFar h s 0 [] j
 no_steps left steps h s (judged.Paired m) none so_far = so_far
-no_steps left steps h s (judged.Holding c) none so_far = record { judging = so_far.judging; left_is = so_far.left_is ∙ none; steps_are = so_far.judging.closed (so_far.left_is ∙ none) }
+no_steps left steps h s (judged.Holding c) none so_far =
+    let left_is : c.left ≡ 0 = so_far.left_is ∙ none in
+    record { judging = subst (λ (t : List Step). IsJudging h s t c) (so_far.judging.closed left_is) so_far.judging; left_is = left_is }
 no_steps left steps h s (judged.Refused at why) none so_far = so_far
 
 -- a value with this text shows all that is shown

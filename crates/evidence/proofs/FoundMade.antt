@@ -17,7 +17,8 @@ use Rattle.evidence.specs.declared.reader_lines.Verdict.{Verdict}
 use Rattle.evidence.specs.declared.reader_lines.Verdict.TheVariants as verdict
 use Rattle.evidence.specs.Accepted.{IsSmallFormula, EntryHolds, IsAcceptedEntry}
 use Rattle.evidence.specs.ByLines.{verdict_of, logs_of, rows_of, models_of, log_count, rows_due, has_model}
-use Rattle.evidence.specs.LogClaims.{Claim, LogHolds, is_base, last_claim, entry_claim, verdict_instants}
+use Rattle.evidence.specs.declared.claimed_logs.Claim.{Claim}
+use Rattle.evidence.specs.LogClaims.{LogHolds, is_base, last_claim, entry_claim, verdict_instants}
 use Rattle.evidence.specs.Readers.{VerdictFits, verdict_content}
 use Rattle.evidence.specs.Rests.{rows_text, models_text}
 use Rattle.evidence.specs.Spelling.{logs_text, proof_text, entry_text}

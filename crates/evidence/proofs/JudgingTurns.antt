@@ -17,6 +17,7 @@ use Rattle.kinduction.specs.declared.found.Spot.TheVariants as spot
 use Rattle.evidence.specs.declared.evidence.Evidence.{Evidence}
 use Rattle.evidence.specs.declared.claim.ClaimFault.{ClaimFault}
 use Rattle.evidence.specs.declared.claim.ClaimFault.TheVariants as claim
+use Rattle.evidence.specs.declared.claimed_logs.Claim.{Claim}
 use Rattle.evidence.specs.declared.claims.Claims.{Claims}
 use Rattle.evidence.specs.declared.claims.Place.{Place}
 use Rattle.evidence.specs.declared.claims.Place.TheVariants as place
@@ -30,7 +31,7 @@ use Rattle.evidence.specs.Accepted.{IsSmallFormula, entry_instants, IsAcceptedEn
 use Rattle.evidence.specs.ByLines.{verdict_of, log_count}
 use Rattle.evidence.specs.Counts.{EntriesFit, EntryFits, HasText}
 use Rattle.evidence.specs.Claims.{IsFirstOf, IsAcceptedEqual, Judges}
-use Rattle.evidence.specs.LogClaims.{Claim, LogHolds, LogFails, part_claim, line_instants, IsPartLog, entry_claim, verdict_instants, IsLogSmall}
+use Rattle.evidence.specs.LogClaims.{LogHolds, LogFails, part_claim, line_instants, IsPartLog, entry_claim, verdict_instants, IsLogSmall}
 use Rattle.evidence.specs.Readers.{EqualLineFits, VerdictFits, verdict_content}
 use Rattle.evidence.specs.Refusals.{line_after, EntryFails, Fails}
 use Rattle.evidence.specs.Rests.{rows_text, models_text as rest_models}

@@ -12,6 +12,7 @@ pub mod SendingLemmas
 pub mod UnitLemmas
 pub mod ClaimLemmas
 pub mod FirstLemmas
+pub mod TrackTurns
 pub mod OrderLemmas
 pub mod LineLemmas
 pub mod BoundLemmas

@@ -27,7 +27,7 @@ use Rattle.evidence.specs.Counts.{HasText}
 use Rattle.evidence.specs.Due.{IsDue}
 use Rattle.evidence.specs.Refusals.{line_after, Fails}
 use Rattle.evidence.specs.Shown.{Header, OpenEntry, Shown, Parts, Entry, BeginsSo, first_text, shown_text, open_text, found_of, no_log, with_log, with_row, with_model, with_entry, with_step, with_count, shown_after}
-use Rattle.evidence.specs.Judging.{IsRefused, Told, open_logs, IsDueInParts, IsDueInEntry, IsDueIn, IsDueAfter, Expects, left_after, steps_after, IsJudged, TakesLineOf}
+use Rattle.evidence.specs.Judging.{IsRefused, Told, open_logs, IsDueInParts, IsDueInEntry, IsDueIn, IsDueAfter, StepsFit, Expects, left_after, steps_after, IsJudged, TakesLineOf}
 use Rattle.evidence.specs.Outcomes.{IsPairing, HasFewParts, IsJudgedLine, JudgesLine, IsAllRead}
 use Rattle.evidence.proofs.EntryTurns.{counted, accepted_at_end}
 use Rattle.evidence.proofs.FoundMade.{is_made}
@@ -151,6 +151,7 @@ pub expects : (a : Lll) (c : Claims) (number : ℕ) (said : Statement) (h : Head
 expects a c number said h s left steps bounds due l j = record {
   h = h;
   s = s;
+  steps = steps;
   bounds = bounds;
   due = due;
   same = l.same;
@@ -160,7 +161,8 @@ expects a c number said h s left steps bounds due l j = record {
   judging = j.judging;
   due_after = subst (λ n. IsDueAfter h s n due) (sym j.left_is) l.due_after;
   is_due = l.is_due;
-  at = l.at ∙ ap (λ n. line_after (shown_text h s ++ open_text n steps)) (sym j.left_is) ∙ ap (λ (t : List Step). line_after (shown_text h s ++ open_text c.left t)) (sym j.steps_are);
+  steps_fit = subst (λ n. StepsFit n steps) (sym j.left_is) l.steps_fit;
+  at = l.at ∙ ap (λ n. line_after (shown_text h s ++ open_text n steps)) (sym j.left_is);
   few = l.few;
 }
 
@@ -171,8 +173,7 @@ handed : (a : Lll) (c now : Claims) (number : ℕ) (said : Statement) (result : 
     → IsJudgedLine a number said h s left steps bounds due → IsJudged h s left steps c → Handed h s said now result left steps
 unfolding expects
 handed a c now number said result h s left steps bounds due takes l j =
-    let here : Handed h s said now result c.left c.steps = takes (expects a c number said h s left steps bounds due l j) in
-    subst (Handed h s said now result left) j.steps_are (subst (λ n. Handed h s said now result n c.steps) j.left_is here)
+    subst (λ n. Handed h s said now result n steps) j.left_is (takes (expects a c number said h s left steps bounds due l j))
 
 pub taken_on : (a : Lll) (c now : Claims) (number : ℕ) (said : Statement) → TakesLineOf a c number said now (Ok tt) → JudgesLine a (judged.Holding c) number said (judged.Holding now)
 taken_on a c now number said takes = λ h s left steps bounds due l j. handed a c now number said (Ok tt) h s left steps bounds due takes l j

@@ -34,7 +34,9 @@ use Rattle.evidence.specs.Shown.{header_of, no_log, parts_front}
 use Rattle.evidence.specs.Spelling.{logs_text, part_count, equal_line, equal_text, entry_line, entries_text, models_text}
 use Rattle.evidence.specs.Refusals.{line_after, RefutationFails, RefutationsFail, SpentLogFails, PartsFail, IsTrace, LastFails, base_logs, EntryFails, Fails}
 use Rattle.evidence.specs.Claims.{IsFirstOf, IsAcceptedEqual, nth_part_formula}
-use Rattle.evidence.specs.LogClaims.{Claim, Refutes, LogHolds, LogFails, part_claim, line_instants, is_base, last_claim, entry_claim, verdict_instants}
+use Rattle.evidence.specs.declared.claimed_logs.Claim.{Claim}
+use Rattle.evidence.specs.declared.claimed_logs.Claim.TheVariants as claim
+use Rattle.evidence.specs.LogClaims.{LogHolds, LogFails, part_claim, line_instants, is_base, last_claim, entry_claim, verdict_instants}
 use Rattle.evidence.proofs.AtOnce.{all_at}
 use Rattle.evidence.proofs.BoundLemmas.{refutations_fail}
 use Rattle.evidence.proofs.EntriesLemmas.{entries_fail}
@@ -109,13 +111,13 @@ module _ (l : Lll) (p depth budget : ℕ) (le : depth ≤ 64) (small_number : p 
 
 -- what a log claims, where it is one of a base formula, and where it isn't
 pub at_base : (l : Lll) (p : ℕ) (v : Verdict) (n : ℕ) (budget : ℕ) (log : Log) → is_base v n ≡ true → LogHolds budget (entry_claim l p v n) log → Accepts (base_formula l p n) log.steps
-at_base l p v n budget log base h = let P = λ (b : Bool). LogHolds budget (if b then Refutes (base_formula l p n) else last_claim l p v) log in subst P base h
+at_base l p v n budget log base h = let P = λ (b : Bool). LogHolds budget (if b then claim.Refutes (base_formula l p n) else last_claim l p v) log in subst P base h
 
-pub claim_base : (l : Lll) (p : ℕ) (v : Verdict) (n : ℕ) → is_base v n ≡ true → entry_claim l p v n ≡ Refutes (base_formula l p n)
-claim_base l p v n base = ap (λ (b : Bool). if b then Refutes (base_formula l p n) else last_claim l p v) base
+pub claim_base : (l : Lll) (p : ℕ) (v : Verdict) (n : ℕ) → is_base v n ≡ true → entry_claim l p v n ≡ claim.Refutes (base_formula l p n)
+claim_base l p v n base = ap (λ (b : Bool). if b then claim.Refutes (base_formula l p n) else last_claim l p v) base
 
 pub claim_last : (l : Lll) (p : ℕ) (v : Verdict) (n : ℕ) → is_base v n ≡ false → entry_claim l p v n ≡ last_claim l p v
-claim_last l p v n last = ap (λ (b : Bool). if b then Refutes (base_formula l p n) else last_claim l p v) last
+claim_last l p v n last = ap (λ (b : Bool). if b then claim.Refutes (base_formula l p n) else last_claim l p v) last
 
 -- the logs before this are those of base formulas
 abbrev pub BasesHold : Lll → ℕ → ℕ → Verdict → List Log → Type 0

@@ -120,7 +120,7 @@ module _ (a : Lll) (c : Claims) (number : ℕ) (row : List Bool) (x : Expects a 
       | inl more ↦ b.later (let e : length c.rows ≡ length there.o.rows = ap (λ (rs : List (List Bool)). length rs) judged.rows.0 in omega (arith, e, more)) ∙ judged.rows.1 more
       | inr le ↦ (
           let no_rows : there.o.rows ≡ [] = none_of there.o.rows (omega (arith, le)) in
-          b.first (judged.rows.0 ∙ no_rows) ∙ after_shown x.h x.s c number row_left x.at ∙ ap (λ (s : Shown). line_after (shown_text x.h s)) there.is
+          b.first (judged.rows.0 ∙ no_rows) ∙ after_shown x.h x.s c number x.steps row_left x.at ∙ ap (λ (s : Shown). line_after (shown_text x.h s)) there.is
           ∙ ap line_after (front_same x.h (Entry there.o) (no_rows, due.rows_first row_some)))
     ]
 
@@ -156,16 +156,15 @@ module _ (a : Lll) (c : Claims) (number : ℕ) (row : List Bool) (x : Expects a 
         (subst (λ (w : Verdict). At x.h.a (length there.o.done) w rows) there.verdict (subst (λ n. At x.h.a n v rows) there.number (subst (λ (l : Lll). At l p v rows) (sym x.same) alone)))
 
     told : (at : ℕ) (rows : List (List Bool)) (result : Result Unit ClaimFault) → rows ≡ c.rows ++ row ∷ [] → at ≡ line_after (rows_front x.h there.o) → IsAlone (RowsHold x.h.a (length there.o.done) there.o.verdict (there.o.rows ++ row ∷ [])) at cause.Trace result
-        → Told (IsJudged x.h (Entry (record there.o { rows = there.o.rows ++ row ∷ [] })) c.left c.steps (with_rows c at rows)) x.h (Entry (record there.o { rows = there.o.rows ++ row ∷ [] })) result
+        → Told (IsJudged x.h (Entry (record there.o { rows = there.o.rows ++ row ∷ [] })) c.left x.steps (with_rows c at rows)) x.h (Entry (record there.o { rows = there.o.rows ++ row ∷ [] })) result
     told at rows (Ok done) more begins alone = record {
       judging = record {
         judged = here at rows more begins alone;
         log_at = λ some. absurd (omega (arith, row_left, some));
-        lines = λ some. absurd (omega (arith, row_left, some));
+        tracked = λ some. absurd (omega (arith, row_left, some));
         closed = x.judging.closed;
       };
       left_is = refl;
-      steps_are = refl;
     }
     told at rows (Err (claim.Refused line why)) more begins alone =
         let o = there.o in
@@ -176,9 +175,9 @@ module _ (a : Lll) (c : Claims) (number : ℕ) (row : List Bool) (x : Expects a 
     told at rows (Err claim.Memory) more begins alone = tt
 
     pub row_turn : (at : ℕ) (rows : List (List Bool)) (result : Result Unit ClaimFault) → rows ≡ c.rows ++ row ∷ [] → BeginsRows c number at → IsAlone (RowsHold a p v rows) at cause.Trace result
-        → Told (IsJudged x.h (with_row x.s row) c.left c.steps (with_rows c at rows)) x.h (with_row x.s row) result
+        → Told (IsJudged x.h (with_row x.s row) c.left x.steps (with_rows c at rows)) x.h (with_row x.s row) result
     row_turn at rows result more b alone =
-        subst (λ (s : Shown). Told (IsJudged x.h s c.left c.steps (with_rows c at rows)) x.h s result) (sym more_shown)
+        subst (λ (s : Shown). Told (IsJudged x.h s c.left x.steps (with_rows c at rows)) x.h s result) (sym more_shown)
         (told at rows result more (begins at b) (as_shown at rows result more alone))
 
 -- ---- an assignment
@@ -235,7 +234,7 @@ module _ (a : Lll) (c : Claims) (number : ℕ) (values : List Bool) (x : Expects
     model_begins =
         let rows : rows_due at_entry.o.verdict ≡ 0 = ap rows_due is_depth in
         let no_rows : at_entry.o.rows ≡ [] = none_of at_entry.o.rows (omega (arith, rows, none x.due.rows model_kinds.2, model_due.rows_due)) in
-        after_shown x.h x.s c number model_left x.at ∙ ap (λ (s : Shown). line_after (shown_text x.h s)) at_entry.is ∙ ap line_after (front_same x.h (Entry at_entry.o) (no_rows, no_model))
+        after_shown x.h x.s c number x.steps model_left x.at ∙ ap (λ (s : Shown). line_after (shown_text x.h s)) at_entry.is ∙ ap line_after (front_same x.h (Entry at_entry.o) (no_rows, no_model))
 
     abbrev Good : Lll → ℕ → ℕ → Type 0
     Good l q depth = Satisfies (listed values) (step_formula l q depth).clauses
@@ -267,16 +266,15 @@ module _ (a : Lll) (c : Claims) (number : ℕ) (values : List Bool) (x : Expects
     }
 
     model_told : (result : Result Unit ClaimFault) → IsAlone (Good x.h.a (length at_entry.o.done) x.h.depth) number cause.Model result
-        → Told (IsJudged x.h (Entry (record at_entry.o { models = at_entry.o.models ++ values ∷ [] })) c.left c.steps c) x.h (Entry (record at_entry.o { models = at_entry.o.models ++ values ∷ [] })) result
+        → Told (IsJudged x.h (Entry (record at_entry.o { models = at_entry.o.models ++ values ∷ [] })) c.left x.steps c) x.h (Entry (record at_entry.o { models = at_entry.o.models ++ values ∷ [] })) result
     model_told (Ok done) alone = record {
       judging = record {
         judged = model_here alone;
         log_at = λ some. absurd (omega (arith, model_left, some));
-        lines = λ some. absurd (omega (arith, model_left, some));
+        tracked = λ some. absurd (omega (arith, model_left, some));
         closed = x.judging.closed;
       };
       left_is = refl;
-      steps_are = refl;
     }
     model_told (Err (claim.Refused line why)) alone =
         let s = Entry (record at_entry.o { models = at_entry.o.models ++ values ∷ [] }) in
@@ -285,7 +283,7 @@ module _ (a : Lll) (c : Claims) (number : ℕ) (values : List Bool) (x : Expects
         subst (λ n. IsRefused x.h s n why) (sym alone.0) (subst (λ (w : Cause). IsRefused x.h s number w) (sym alone.1) refused)
     model_told (Err claim.Memory) alone = tt
 
-    pub model_turn : (result : Result Unit ClaimFault) → IsAlone (Good a p c.depth) number cause.Model result → Told (IsJudged x.h (with_model x.s values) c.left c.steps c) x.h (with_model x.s values) result
+    pub model_turn : (result : Result Unit ClaimFault) → IsAlone (Good a p c.depth) number cause.Model result → Told (IsJudged x.h (with_model x.s values) c.left x.steps c) x.h (with_model x.s values) result
     model_turn result alone =
-        subst (λ (s : Shown). Told (IsJudged x.h s c.left c.steps c) x.h s result) (sym (ap (λ (s : Shown). with_model s values) at_entry.is))
+        subst (λ (s : Shown). Told (IsJudged x.h s c.left x.steps c) x.h s result) (sym (ap (λ (s : Shown). with_model s values) at_entry.is))
         (model_told result (as_good result alone))

@@ -1,6 +1,6 @@
 -- Judging that keeps step with each line of a text, and the end.
 use Rattle.std.proofs.Common.{◌≡◌, ℕ, ◌+◌, ◌^◌, ◌≤◌, List, ◌++◌, length, Some, None, Ok, Err, refl, sym, ap, subst, ◌∙◌, ◌*◌, append_assoc, arith}
-use Rattle.std.specs.Prelude.{Result, Option, codes}
+use Rattle.std.specs.Prelude.{Result, Option, OnOk, codes}
 use Rattle.std.proofs.lemmas.List.{append-nil}
 use Rattle.lll_core.specs.declared.lll.Lll.{Lll}
 use Rattle.lll_text.specs.Lines.{line_feeds}
@@ -162,7 +162,7 @@ body_then q (line.Model xs) live at = at
 body_then q (line.Entry v) live at = at
 body_then q line.End live at = absurd (live refl)
 
-pub line_said : (judged : Option Judged) (number : ℕ) (says : Statement) (q : Progress) (j now : Judged) → judged ≡ Some j → (says ≡ line.End → ⊥) → FollowsAll q.first j number says now → KeepsOn judged number (said.Line says) q (Some now)
+line_said : (judged : Option Judged) (number : ℕ) (says : Statement) (q : Progress) (j now : Judged) → judged ≡ Some j → (says ≡ line.End → ⊥) → FollowsAll q.first j number says now → KeepsOn judged number (said.Line says) q (Some now)
 line_said judged number says q j now is live follows = λ front content p read step.
     let t = read.tells in
     let k = step_was p stage.Body front judged t.was step in
@@ -170,6 +170,11 @@ line_said judged number says q j now is live follows = λ front content p read s
     let now_read = follows p (sym t.to.first) front q before t.is_due read.at read.few live t.to in
     step_at q stage.Body (front ++ line_of content) (Some now) (body_then q says live t.to.stage)
     (now, refl, subst (λ (c : List ℕ). Follows (front ++ line_of c) q now) (sym t.content_is) now_read)
+
+pub line_kept : {E : Type 0} (judged : Option Judged) (number : ℕ) (says : Statement) (q : Progress) (j now : Judged) (result : Result Unit E) → judged ≡ Some j → (says ≡ line.End → ⊥) → OnOk result (FollowsAll q.first j number says now)
+    → OnOk result (KeepsOn judged number (said.Line says) q (Some now))
+line_kept judged number says q j now (Ok done) is live follows = line_said judged number says q j now is live follows
+line_kept judged number says q j now (Err why) is live follows = tt
 
 pub end_said : (judged : Option Judged) (number : ℕ) (q : Progress) → KeepsOn judged number (said.Line line.End) q judged
 end_said judged number q = λ front content p read step.

@@ -74,12 +74,6 @@ pub record IsFirstStop (f : Cnf) (at : ℕ) (steps : List Step) (line : ℕ) (wh
   pub named : IsStepCause stop why
   pub refused : IsFirstRefused f steps n stop
 
--- all steps are taken, or the first that is refused is named
-abbrev pub TakesSteps : Cnf → ℕ → List Step → Result Refutation ClaimFault → Type 0
-TakesSteps f at steps (Ok refutation) = HasRefuted f steps refutation
-TakesSteps f at steps (Err (claim.Refused line why)) = IsFirstStop f at steps line why
-TakesSteps f at steps (Err claim.Memory) = Unit {0}
-
 -- ---- claims
 
 -- one cause in one line

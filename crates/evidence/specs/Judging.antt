@@ -12,6 +12,7 @@ use Rattle.unroll_cnf.specs.Unrollings.{step_formula}
 use Rattle.evidence.specs.declared.evidence.Evidence.{Evidence}
 use Rattle.evidence.specs.declared.claim.ClaimFault.{ClaimFault}
 use Rattle.evidence.specs.declared.claim.ClaimFault.TheVariants as claim
+use Rattle.evidence.specs.declared.claimed_logs.Claim.{Claim}
 use Rattle.evidence.specs.declared.claims.Claims.{Claims}
 use Rattle.evidence.specs.declared.claims.Place.{Place}
 use Rattle.evidence.specs.declared.claims.Place.TheVariants as place
@@ -32,7 +33,8 @@ use Rattle.evidence.specs.Due.{IsDue}
 use Rattle.evidence.specs.Readers.{EqualLineFits, VerdictFits}
 use Rattle.evidence.specs.Refusals.{line_after, IsTrace, Fails}
 use Rattle.evidence.specs.Claims.{IsFirstOf, IsAcceptedEqual}
-use Rattle.evidence.specs.LogClaims.{Claim, LogHolds, part_claim, line_instants, IsPartLog, IsLogSmall, entry_claim, verdict_instants}
+use Rattle.evidence.specs.LogClaims.{LogHolds, part_claim, line_instants, IsPartLog, IsLogSmall, entry_claim, verdict_instants}
+use Rattle.evidence.specs.Tracking.{Tracks}
 use Rattle.evidence.specs.Shown.{Header, OpenEntry, Shown, Parts, Entry, BeginsSo, header_text, rows_front, shown_text, open_text, steps_then, with_log, shown_after}
 
 -- ---- what holds so far
@@ -126,12 +128,12 @@ pub record HasJudged (h : Header) (s : Shown) (c : Claims) : Type 0 where
   pub rows : AreRowsOf c.rows_at c.rows h s
   pub hold : HoldSoFar h c.miter s
 
--- and so is the log that isn't closed
-pub record IsJudging (h : Header) (s : Shown) (c : Claims) : Type 0 where
+-- and the log that isn't closed, of which these steps came, is judged so far
+pub record IsJudging (h : Header) (s : Shown) (steps : List Step) (c : Claims) : Type 0 where
   pub judged : HasJudged h s c
   pub log_at : 0 < c.left → c.log_at ≡ line_after (shown_text h s)
-  pub lines : 0 < c.left → c.log_at + (length c.steps + c.left) < 2 ^ 63
-  pub closed : c.left ≡ 0 → c.steps ≡ []
+  pub tracked : 0 < c.left → Tracks c.conflicts (claim_at h.a c.miter c.place) c.log_at (length steps + c.left) steps c.open_log
+  pub closed : c.left ≡ 0 → steps ≡ []
 
 -- whatever the value, this is the first cause why its claims don't hold
 abbrev pub IsRefused : Header → Shown → ℕ → Cause → Type 0
@@ -154,9 +156,10 @@ IsBeforeRows (Parts said logs) = Unit {0}
 IsBeforeRows (Entry o) = (o.rows ≡ []) × (o.models ≡ [])
 
 -- the steps that came make a log, which shows what it claims or is refused
-abbrev pub ClosesLog : Lll → Claims → Claims → Result Unit ClaimFault → Type 0
-ClosesLog a c now result = (h : Header) (s : Shown) → h.a ≡ a → HasJudged h s c → IsBeforeRows s → c.log_at ≡ line_after (shown_text h s) →
-    Told (HasJudged h (with_log s (record { steps = c.steps })) now) h (with_log s (record { steps = c.steps })) result
+abbrev pub ClosesLog : Claims → Claims → Result Unit ClaimFault → Type 0
+ClosesLog c now result = (h : Header) (s : Shown) (steps : List Step) → HasJudged h s c → IsBeforeRows s → c.log_at ≡ line_after (shown_text h s)
+    → Tracks c.conflicts (claim_at h.a c.miter c.place) c.log_at (length steps) steps c.open_log →
+    Told (HasJudged h (with_log s (record { steps = steps })) now) h (with_log s (record { steps = steps })) result
 
 -- ---- what is due
 
@@ -204,22 +207,29 @@ pub record IsDueAfter (h : Header) (s : Shown) (left : ℕ) (due : Due) : Type 0
   pub steps_due : due.steps ≡ left
   pub there : IsDueIn h s (open_logs left) due
 
+-- the steps of the log that is open fit
+pub record StepsFit (left : ℕ) (steps : List Step) : Type 0 where
+  pub count : length steps + left < 2 ^ 32
+  pub each : All IsStep steps
+
 -- ---- a line
 
 -- the line of this number is due, and says this
 pub record Expects (a : Lll) (c : Claims) (number : ℕ) (said : Statement) : Type 0 where
   pub h : Header
   pub s : Shown
+  pub steps : List Step
   pub bounds : Bounds
   pub due : Due
   pub same : h.a ≡ a
   pub depth : bounds.depth ≡ h.depth
   pub inputs : bounds.inputs ≡ input_count h.a.signals
   pub depth_bound : h.depth ≤ 64
-  pub judging : IsJudging h s c
+  pub judging : IsJudging h s steps c
   pub due_after : IsDueAfter h s c.left due
   pub is_due : IsDue bounds due said
-  pub at : number ≡ line_after (shown_text h s ++ open_text c.left c.steps)
+  pub steps_fit : StepsFit c.left steps
+  pub at : number ≡ line_after (shown_text h s ++ open_text c.left steps)
   pub few : number < 2 ^ 62
 
 -- how many steps a log lacks after a line, and which it has
@@ -239,11 +249,10 @@ steps_after left steps (line.Model values) = steps
 steps_after left steps (line.Entry v) = steps
 steps_after left steps line.End = steps
 
--- the claims of what is shown hold so far, and a log lacks so many steps
+-- the claims of what is shown hold so far, and a log has these steps and lacks so many
 pub record IsJudged (h : Header) (s : Shown) (left : ℕ) (steps : List Step) (c : Claims) : Type 0 where
-  pub judging : IsJudging h s c
+  pub judging : IsJudging h s steps c
   pub left_is : c.left ≡ left
-  pub steps_are : c.steps ≡ steps
 
 -- the line of the parts is read
 abbrev pub Begun : Header → EqualLine → Result Claims ClaimFault → Type 0
@@ -258,8 +267,8 @@ BeginsClaims m depth conflicts said at result = (h : Header) → depth ≡ h.dep
 -- after it the claims hold so far, or the first that fails is told
 abbrev pub TakesLineOf : Lll → Claims → ℕ → Statement → Claims → Result Unit ClaimFault → Type 0
 TakesLineOf a c number said now result = (x : Expects a c number said) →
-    let s = shown_after x.s c.left c.steps said in
-    Told (IsJudged x.h s (left_after c.left said) (steps_after c.left c.steps said) now) x.h s result
+    let s = shown_after x.s c.left x.steps said in
+    Told (IsJudged x.h s (left_after c.left said) (steps_after c.left x.steps said) now) x.h s result
 
 -- ---- what was read fits
 
@@ -280,8 +289,3 @@ pub record EntryFitsSoFar (h : Header) (o : OpenEntry) : Type 0 where
 abbrev pub FitSoFar : Header → Shown → Type 0
 FitSoFar h (Parts said logs) = All IsLog logs
 FitSoFar h (Entry o) = EntryFitsSoFar h o
-
--- and so do the steps of the log that is open
-pub record StepsFit (left : ℕ) (steps : List Step) : Type 0 where
-  pub count : length steps + left < 2 ^ 32
-  pub each : All IsStep steps

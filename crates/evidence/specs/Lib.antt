@@ -18,6 +18,7 @@ pub mod Stands
 pub mod ByLines
 pub mod Shown
 pub mod LogClaims
+pub mod Tracking
 pub mod Judging
 pub mod Outcomes
 pub mod Following

@@ -3,11 +3,12 @@ use Rattle.std.specs.Prelude.{◌≡◌, ℕ, ◌+◌, ◌-◌, ◌*◌, ◌<◌
 use Rattle.lll_core.specs.declared.lll.Lll.{Lll}
 use Rattle.miter.specs.declared.parts.MiterLll.{MiterLll}
 use Rattle.rup_checker.specs.declared.log.Log.{Log}
-use Rattle.rup_checker.specs.Formulas.{Cnf}
 use Rattle.rup_checker.specs.Logs.{Accepts}
 use Rattle.unroll_cnf.specs.Unrollings.{base_formula, step_formula}
 use Rattle.kinduction.specs.declared.found.Spot.TheVariants as spot
 use Rattle.kinduction.specs.Parts.{part_formula}
+use Rattle.evidence.specs.declared.claimed_logs.Claim.{Claim}
+use Rattle.evidence.specs.declared.claimed_logs.Claim.TheVariants as claim
 use Rattle.evidence.specs.declared.fault.Cause.{Cause}
 use Rattle.evidence.specs.declared.reader_lines.EqualLine.{EqualLine}
 use Rattle.evidence.specs.declared.reader_lines.EqualLine.TheVariants as says
@@ -17,24 +18,20 @@ use Rattle.evidence.specs.Accepted.{IsSmallFormula, place_instants, place_formul
 use Rattle.evidence.specs.Refusals.{RefutationFails, SpentLogFails}
 use Rattle.evidence.specs.Claims.{nth_part_formula}
 
--- the log refutes a formula, or shows that the budget is spent on it
-pub data Claim : Type 0 where
-  Refutes : Cnf → Claim
-  Spends : Cnf → Claim
-
+-- the log refutes the formula, or shows that the budget is spent on it
 abbrev pub LogHolds : ℕ → Claim → Log → Type 0
-LogHolds budget (Refutes f) log = Accepts f log.steps
-LogHolds budget (Spends f) log = IsSpentLog f budget log
+LogHolds budget (claim.Refutes f) log = Accepts f log.steps
+LogHolds budget (claim.Spends f) log = IsSpentLog f budget log
 
 abbrev pub LogFails : ℕ → Claim → List ℕ → Log → ℕ → Cause → Type 0
-LogFails budget (Refutes f) front log line why = RefutationFails f front log line why
-LogFails budget (Spends f) front log line why = SpentLogFails f budget front log line why
+LogFails budget (claim.Refutes f) front log line why = RefutationFails f front log line why
+LogFails budget (claim.Spends f) front log line why = SpentLogFails f budget front log line why
 
 -- ---- among the logs of the parts
 
 abbrev pub part_claim : MiterLll → EqualLine → ℕ → Claim
-part_claim m says.Shown number = Refutes (nth_part_formula m number)
-part_claim m (says.Conflicts part stepping) number = Spends (part_formula m part stepping)
+part_claim m says.Shown number = claim.Refutes (nth_part_formula m number)
+part_claim m (says.Conflicts part stepping) number = claim.Spends (part_formula m part stepping)
 
 -- the instants of the largest formula that they use
 abbrev pub line_instants : EqualLine → ℕ
@@ -58,13 +55,13 @@ is_base (verdict.Conflicts (spot.Step k)) number = nat_lt number k
 
 -- what the log after those claims; there is one only for two of the verdicts
 abbrev pub last_claim : Lll → ℕ → Verdict → Claim
-last_claim l p (verdict.Proved k) = Refutes (step_formula l p k)
-last_claim l p (verdict.Falsified n) = Refutes (base_formula l p n)
-last_claim l p verdict.Depth = Refutes (base_formula l p 0)
-last_claim l p (verdict.Conflicts place) = Spends (place_formula l p place)
+last_claim l p (verdict.Proved k) = claim.Refutes (step_formula l p k)
+last_claim l p (verdict.Falsified n) = claim.Refutes (base_formula l p n)
+last_claim l p verdict.Depth = claim.Refutes (base_formula l p 0)
+last_claim l p (verdict.Conflicts place) = claim.Spends (place_formula l p place)
 
 abbrev pub entry_claim : Lll → ℕ → Verdict → ℕ → Claim
-entry_claim l p v number = if is_base v number then Refutes (base_formula l p number) else last_claim l p v
+entry_claim l p v number = if is_base v number then claim.Refutes (base_formula l p number) else last_claim l p v
 
 -- the instants of the largest formula that an entry uses
 abbrev pub verdict_instants : ℕ → Verdict → ℕ

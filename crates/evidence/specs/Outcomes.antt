@@ -17,7 +17,7 @@ use Rattle.evidence.specs.Refusals.{line_after, Fails}
 use Rattle.evidence.specs.Claims.{IsFirstOf}
 use Rattle.evidence.specs.Shown.{Header, Shown, header_of, first_text, shown_text, open_text, shown_after}
 use Rattle.evidence.specs.Spelling.{part_count}
-use Rattle.evidence.specs.Judging.{IsRefused, IsDueAfter, Expects, left_after, steps_after, IsJudged}
+use Rattle.evidence.specs.Judging.{IsRefused, IsDueAfter, StepsFit, Expects, left_after, steps_after, IsJudged}
 
 -- the two models have a miter, or it is told why not
 abbrev pub IsPairing : Header → Judged → Type 0
@@ -48,6 +48,7 @@ pub record IsJudgedLine (a : Lll) (number : ℕ) (said : Statement) (h : Header)
   pub depth_bound : h.depth ≤ 64
   pub due_after : IsDueAfter h s left due
   pub is_due : IsDue bounds due said
+  pub steps_fit : StepsFit left steps
   pub at : number ≡ line_after (shown_text h s ++ open_text left steps)
   pub few : number < 2 ^ 62
 

@@ -1,22 +1,26 @@
-//! Whether a log shows what it claims where it stands: among the logs of the parts, or among those of an entry.
+//! What a log claims where it stands: among the logs of the parts, or among those of an entry.
 
-ghost use Rattle.std.specs.Prelude.{◌≡◌, ◌+◌, ◌*◌, ◌^◌, ◌<◌, ◌≤◌, ℕ, List, false, length, IfOk, if◌then◌else◌};
+ghost use Rattle.std.specs.Prelude.{◌≡◌, ◌+◌, ◌*◌, ◌<◌, ◌≤◌, false, length, IfOk, if◌then◌else◌};
 ghost use Rattle.kinduction.specs.Parts.{part_formula as part_formula_of};
 ghost use Rattle.evidence.specs.Accepted.{IsSmallFormula};
-ghost use Rattle.evidence.specs.Refusals.{line_after};
-ghost use Rattle.evidence.specs.Claims.{Judges};
-ghost use Rattle.evidence.specs.LogClaims.{LogHolds, LogFails, part_claim, line_instants, IsPartLog, is_base as is_base_of, last_claim, entry_claim, IsLastSmall, IsLogSmall};
+ghost use Rattle.evidence.specs.LogClaims.{part_claim as part_claim_of, line_instants, IsPartLog, is_base as is_base_of, last_claim as last_claim_of, entry_claim as entry_claim_of, IsLastSmall, IsLogSmall};
 
-use crate::claim::ClaimFault;
 use crate::reader_lines::{EqualLine, Verdict};
-use crate::refutation::judge_refutation;
-use crate::spent::judge_spent_log;
 use kinduction::Spot;
 use lll_core::Lll;
 use miter::MiterLll;
-use rup_checker::{Formula, Log};
+use rup_checker::Formula;
 use std::alloc::{AllocError, Global};
 use unroll_cnf::{base, part_base, part_step, step};
+
+/// What a log claims of a formula.
+#[derive(Debug, Drop)]
+pub enum Claim {
+    /// The log refutes it.
+    Refutes(Formula),
+    /// The log shows that the budget is spent on it.
+    Spends(Formula),
+}
 
 /// The formula of a part.
 fn part_formula(
@@ -36,30 +40,25 @@ fn part_formula(
     }
 }
 
-/// The log of the parts with this number.
-pub(crate) fn judge_part_log(
+/// What the log of the parts with this number claims.
+pub(crate) fn part_claim(
     alloc: Global,
     m: &MiterLll,
-    budget: u32,
     said: EqualLine,
     number: usize,
-    log: &Log,
-    at: u64,
-) -> Result<(), ClaimFault>
+) -> Result<Claim, AllocError>
     requires part { IsPartLog m.now said number }
     requires size { IsSmallFormula (line_instants said) (length m.now.lll.signals) }
-    requires lines { at + length log.now.steps < 2 ^ 63 }
-    ensures { (front : List ℕ) → at ≡ line_after front →
-        Judges (LogHolds budget (part_claim m.now said number) log.now) (LogFails budget (part_claim m.now said number) front log.now) result }
+    ensures { IfOk result (λ claim. claim ≡ part_claim_of m.now said number) }
 {
     match said {
         EqualLine::Shown => {
             let formula = part_formula(alloc, m, number / 2, number % 2 == 1)?;
-            judge_refutation(alloc, formula, log, at)
+            Ok(Claim::Refutes(formula))
         }
         EqualLine::Conflicts { part, stepping } => {
             let formula = part_formula(alloc, m, part as usize, stepping)?;
-            judge_spent_log(alloc, formula, budget, log, at)
+            Ok(Claim::Spends(formula))
         }
     }
 }
@@ -77,55 +76,46 @@ fn is_base(verdict: Verdict, number: u32) -> bool
     }
 }
 
-/// The last log of an entry, after those of base formulas.
-fn judge_last_log(
-    alloc: Global,
-    l: &Lll,
-    p: usize,
-    budget: u32,
-    verdict: Verdict,
-    log: &Log,
-    at: u64,
-) -> Result<(), ClaimFault>
+/// What the last log of an entry claims, after those of base formulas.
+fn last_claim(alloc: Global, l: &Lll, p: usize, verdict: Verdict) -> Result<Claim, AllocError>
     requires obligation { p < length l.now.obligations }
     requires size { IsLastSmall verdict (length l.now.signals) }
-    requires lines { at + length log.now.steps < 2 ^ 63 }
-    ensures { (front : List ℕ) → at ≡ line_after front →
-        Judges (LogHolds budget (last_claim l.now p verdict) log.now) (LogFails budget (last_claim l.now p verdict) front log.now) result }
+    ensures { IfOk result (λ claim. claim ≡ last_claim_of l.now p verdict) }
 {
     match verdict {
-        Verdict::Proved(k) => judge_refutation(alloc, step(alloc, l, p, k)?, log, at),
+        Verdict::Proved(k) => {
+            let formula = step(alloc, l, p, k)?;
+            Ok(Claim::Refutes(formula))
+        }
         Verdict::Falsified(_) => unreachable!(),
         Verdict::Depth => unreachable!(),
         Verdict::Conflicts(Spot::Base(instant)) => {
-            judge_spent_log(alloc, base(alloc, l, p, instant)?, budget, log, at)
+            let formula = base(alloc, l, p, instant)?;
+            Ok(Claim::Spends(formula))
         }
         Verdict::Conflicts(Spot::Step(round)) => {
-            judge_spent_log(alloc, step(alloc, l, p, round)?, budget, log, at)
+            let formula = step(alloc, l, p, round)?;
+            Ok(Claim::Spends(formula))
         }
     }
 }
 
-/// The log of an entry with this number.
-pub(crate) fn judge_entry_log(
+/// What the log of an entry with this number claims.
+pub(crate) fn entry_claim(
     alloc: Global,
     l: &Lll,
     p: usize,
-    budget: u32,
     verdict: Verdict,
     number: u32,
-    log: &Log,
-    at: u64,
-) -> Result<(), ClaimFault>
+) -> Result<Claim, AllocError>
     requires obligation { p < length l.now.obligations }
     requires size { IsLogSmall verdict number (length l.now.signals) }
-    requires lines { at + length log.now.steps < 2 ^ 63 }
-    ensures { (front : List ℕ) → at ≡ line_after front →
-        Judges (LogHolds budget (entry_claim l.now p verdict number) log.now) (LogFails budget (entry_claim l.now p verdict number) front log.now) result }
+    ensures { IfOk result (λ claim. claim ≡ entry_claim_of l.now p verdict number) }
 {
     if is_base(verdict, number) {
-        judge_refutation(alloc, base(alloc, l, p, number)?, log, at)
+        let formula = base(alloc, l, p, number)?;
+        Ok(Claim::Refutes(formula))
     } else {
-        judge_last_log(alloc, l, p, budget, verdict, log, at)
+        last_claim(alloc, l, p, verdict)
     }
 }

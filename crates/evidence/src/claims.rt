@@ -1,32 +1,34 @@
 //! The claims of a text, judged as its lines come, so that no log is kept that was judged.
 
-ghost use Rattle.std.specs.Prelude.{◌≡◌, ◌+◌, ◌-◌, ◌^◌, ◌<◌, ◌≤◌, ℕ, List, [], length, OnOk};
+ghost use Rattle.std.specs.Prelude.{◌≡◌, ◌+◌, ◌-◌, ◌^◌, ◌<◌, ◌≤◌, [], length, IfOk};
 ghost use Rattle.rup_checker.specs.Formulas.{Satisfies, listed};
 ghost use Rattle.unroll_cnf.specs.Unrollings.{step_formula};
 ghost use Rattle.lll_core.specs.Tables.{AreInputs};
+ghost use Rattle.lll_core.specs.declared.lll.Lll.{Lll as LllValue};
 ghost use Rattle.miter.specs.Miters.{IsMiter};
 ghost use Rattle.evidence.specs.declared.fault.Cause.TheVariants as cause;
 ghost use Rattle.evidence.specs.declared.reader_due.Statement.TheVariants as line;
 ghost use Rattle.evidence.specs.Accepted.{IsSmallFormula};
-ghost use Rattle.evidence.specs.Claims.{IsAlone, Judges};
-ghost use Rattle.evidence.specs.LogClaims.{LogHolds, LogFails, line_instants, verdict_instants};
+ghost use Rattle.evidence.specs.Claims.{IsAlone};
+ghost use Rattle.evidence.specs.Tracking.{IsTracked};
+ghost use Rattle.evidence.specs.LogClaims.{line_instants, verdict_instants};
 ghost use Rattle.evidence.specs.Readers.{VerdictFits};
-ghost use Rattle.evidence.specs.Refusals.{line_after};
 ghost use Rattle.evidence.specs.Judging.{RowsHold, RowsFit, claim_at, CanJudge, HasRoom, HasNext, place_after, place_in_entry, BeginsRows, Expects, TakesLineOf, ClosesLog, BeginsClaims};
 
 use crate::Cause;
 use crate::assignment::satisfies;
 use crate::claim::ClaimFault;
-use crate::claimed_logs::{judge_entry_log, judge_part_log};
+use crate::claimed_logs::{Claim, entry_claim, part_claim};
 use crate::counting::instants_of_place;
+use crate::open_log::OpenLog;
+use crate::read_step::ReadStep;
 use crate::reader_due::Statement;
 use crate::reader_lines::{EqualLine, Verdict};
 use crate::trace::breaks;
 use lll_core::Lll;
 use miter::MiterLll;
-use rup_checker::{Log, Step};
 use sqlite_items::Items;
-use std::alloc::Global;
+use std::alloc::{AllocError, Global};
 use std::mem::replace;
 use unroll_cnf::{fits, step};
 
@@ -55,9 +57,9 @@ pub(crate) struct Claims {
     pub place: Place,
     /// The line of the last log.
     pub log_at: u64,
-    /// How many of its steps are still to come, and those that came; none, where it is closed.
+    /// How many of its steps are still to come, and what is known of those that came.
     pub left: u32,
-    pub steps: Items<Step>,
+    pub open_log: OpenLog,
     /// The line of the first row of the entry, and its rows so far.
     pub rows_at: u64,
     pub rows: Items<Items<bool>>,
@@ -207,54 +209,32 @@ impl Claims {
             place: Place::Parts { said, closed: 0 },
             log_at: 0,
             left: 0,
-            steps: Items::new(alloc),
+            open_log: OpenLog::Closed,
             rows_at: 0,
             rows: Items::new(alloc),
         })
     }
 
-    /// A log all of whose steps came.
-    fn judge_log(&self, alloc: Global, a: &Lll, log: &Log) -> Result<(), ClaimFault>
-        requires can { CanJudge a.now self.now.miter self.now.place }
-        requires lines { self.now.log_at + length log.now.steps < 2 ^ 63 }
-        ensures { (front : List ℕ) → self.now.log_at ≡ line_after front →
-            Judges (LogHolds self.now.conflicts (claim_at a.now self.now.miter self.now.place) log.now)
-            (LogFails self.now.conflicts (claim_at a.now self.now.miter self.now.place) front log.now) result }
+    /// What the next log claims.
+    fn claim(&self, alloc: Global, a: &Lll) -> Result<Claim, AllocError>
+        requires { CanJudge a.now self.now.miter self.now.place }
+        ensures { IfOk result (λ claim. claim ≡ claim_at a.now self.now.miter self.now.place) }
     {
         match self.place {
-            Place::Parts { said, closed } => judge_part_log(
-                alloc,
-                &self.miter,
-                self.conflicts,
-                said,
-                closed,
-                log,
-                self.log_at,
-            ),
-            Place::Entry { p, verdict, closed } => judge_entry_log(
-                alloc,
-                a,
-                p,
-                self.conflicts,
-                verdict,
-                closed,
-                log,
-                self.log_at,
-            ),
+            Place::Parts { said, closed } => part_claim(alloc, &self.miter, said, closed),
+            Place::Entry { p, verdict, closed } => entry_claim(alloc, a, p, verdict, closed),
         }
     }
 
     /// The log has all its steps.
-    fn close(&mut self, alloc: Global, a: &Lll) -> Result<(), ClaimFault>
-        requires can { CanJudge a.now self.old.miter self.old.place }
+    fn close(&mut self, alloc: Global) -> Result<(), ClaimFault>
         requires room { HasRoom self.old.place }
-        requires lines { self.old.log_at + length self.old.steps < 2 ^ 63 }
-        ensures judged { ClosesLog a.now self.old self.new result }
+        requires tracked { IsTracked self.old.log_at self.old.open_log }
+        ensures judged { ClosesLog self.old self.new result }
         ensures left { self.new.left ≡ self.old.left }
-        ensures steps { OnOk result (self.new.steps ≡ []) }
     {
-        let steps = replace(&mut self.steps, Items::new(alloc));
-        self.judge_log(alloc, a, &Log { steps })?;
+        let open_log = replace(&mut self.open_log, OpenLog::Closed);
+        open_log.outcome(alloc, self.log_at)?;
         self.place = self.place.after_log();
         Ok(())
     }
@@ -264,24 +244,27 @@ impl Claims {
         requires { Expects a.now self.old number (line.Log count) }
         ensures { TakesLineOf a.now self.old number (line.Log count) self.new result }
     {
+        let claim = self.claim(alloc, a)?;
+        self.open_log = OpenLog::new(alloc, claim, self.conflicts, number, count)?;
         self.log_at = number;
         self.left = count;
         if count > 0 {
             return Ok(());
         }
-        self.close(alloc, a)
+        self.close(alloc)
     }
 
-    fn step(&mut self, alloc: Global, a: &Lll, step: Step) -> Result<(), ClaimFault>
-        requires { (number : ℕ) × Expects a.now self.old number (line.Step step) }
-        ensures { (number : ℕ) → TakesLineOf a.now self.old number (line.Step step) self.new result }
+    /// The next step of the log that is open.
+    fn step(&mut self, alloc: Global, number: u64, step: &ReadStep) -> Result<(), ClaimFault>
+        requires { (a : LllValue) × Expects a self.old number (line.Step step.now) }
+        ensures { (a : LllValue) → TakesLineOf a self.old number (line.Step step.now) self.new result }
     {
-        self.steps.push(step)?;
+        self.open_log.step(step, number)?;
         self.left -= 1;
         if self.left > 0 {
             return Ok(());
         }
-        self.close(alloc, a)
+        self.close(alloc)
     }
 
     /// The line of the first row, where the next is in the line with this number.
@@ -352,19 +335,23 @@ impl Claims {
         Ok(())
     }
 
-    /// The line with this number, after the line of the parts.
+    /// The line with this number, after the line of the parts. A step leaves its memory as room for the next.
     pub(crate) fn take(
         &mut self,
         alloc: Global,
         a: &Lll,
         number: u64,
         statement: Statement,
+        room: &mut ReadStep,
     ) -> Result<(), ClaimFault>
         requires { Expects a.now self.old number statement }
         ensures { TakesLineOf a.now self.old number statement self.new result }
     {
         match statement {
-            Statement::Step(step) => self.step(alloc, a, step),
+            Statement::Step(step) => {
+                *room = step;
+                self.step(alloc, number, room)
+            }
             Statement::Log(count) => self.log(alloc, a, number, count),
             Statement::Row(row) => self.row(alloc, a, number, row),
             Statement::Model(values) => self.model(alloc, a, number, values.as_slice()),

@@ -1,10 +1,11 @@
 //! Judging that keeps step with a reader, after the models.
 
-ghost use Rattle.std.specs.Prelude.{◌≢◌, IfOk};
+ghost use Rattle.std.specs.Prelude.{◌≢◌, IfOk, OnOk};
 ghost use Rattle.evidence.specs.Following.{HasBothModels, FollowsBoth, FollowsParts, IsLineAfter, FollowsAll, HasFollowed, EndsSo};
 
 use crate::claim::ClaimFault;
 use crate::claims_judged::Judged;
+use crate::read_step::ReadStep;
 use crate::reader_due::Statement;
 use crate::reader_lines::EqualLine;
 use crate::reader_progress::Progress;
@@ -43,19 +44,20 @@ pub(crate) fn judge_parts_line(
 }
 
 /// The line of this number, which is due after the line of the parts. The first model is that of the progress, before
-/// and after the line.
+/// and after the line. A step leaves its memory as room for the next.
 pub(crate) fn judge_line(
     alloc: Global,
     first: &Option<Lll>,
-    judged: Judged,
+    judged: &mut Judged,
     number: u64,
     statement: Statement,
-) -> Result<Judged, AllocError>
-    requires { IsLineAfter first.now judged number statement }
-    ensures { IfOk result (FollowsAll first.now judged number statement) }
+    room: &mut ReadStep,
+) -> Result<(), AllocError>
+    requires { IsLineAfter first.now judged.old number statement }
+    ensures { OnOk result (FollowsAll first.now judged.old number statement judged.new) }
 {
     match first {
-        Some(a) => judged.take(alloc, a, number, statement),
+        Some(a) => judged.take(alloc, a, number, statement, room),
         None => unreachable!(),
     }
 }

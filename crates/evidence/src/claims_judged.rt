@@ -1,6 +1,6 @@
 //! The claims of a text up to the first that fails.
 
-ghost use Rattle.std.specs.Prelude.{◌≡◌, ◌≢◌, ◌+◌, ◌^◌, ◌<◌, [], IfOk};
+ghost use Rattle.std.specs.Prelude.{◌≡◌, ◌≢◌, ◌+◌, ◌^◌, ◌<◌, [], IfOk, OnOk};
 ghost use Rattle.miter.specs.Pairs.{size_of};
 ghost use Rattle.evidence.specs.Accepted.{Accepted};
 ghost use Rattle.evidence.specs.Claims.{Judges};
@@ -15,6 +15,7 @@ ghost use Rattle.evidence.specs.Outcomes.{IsPairing, HasFewParts, PairsAll, IsSo
 use crate::Cause;
 use crate::claim::ClaimFault;
 use crate::claims::Claims;
+use crate::read_step::ReadStep;
 use crate::reader_due::Statement;
 use crate::reader_lines::EqualLine;
 use lll_core::Lll;
@@ -30,6 +31,18 @@ pub(crate) enum Judged {
     Holding(Claims),
     /// The first cause why the claims don't hold, and its line.
     Refused { line: u64, cause: Cause },
+}
+
+/// A step that isn't judged leaves its memory too.
+fn leave(statement: Statement, room: &mut ReadStep) {
+    match statement {
+        Statement::Step(step) => *room = step,
+        Statement::Log(_)
+        | Statement::Row(_)
+        | Statement::Model(_)
+        | Statement::Entry(_)
+        | Statement::End => {}
+    }
 }
 
 impl Judged {
@@ -73,21 +86,39 @@ impl Judged {
         }
     }
 
-    /// A line after that, which has this number.
+    /// A claim fails, for this cause in this line.
+    fn refuse(&mut self, line: u64, cause: Cause)
+        ensures { self.new ≡ judged.Refused line cause }
+    {
+        *self = Judged::Refused { line, cause };
+    }
+
+    /// A line after that, which has this number. A step leaves its memory as room for the next.
     pub(crate) fn take(
-        self,
+        &mut self,
         alloc: Global,
         a: &Lll,
         number: u64,
         statement: Statement,
-    ) -> Result<Judged, AllocError>
-        requires { ExpectsLine a.now self number statement }
-        ensures { IfOk result (JudgesLine a.now self number statement) }
+        room: &mut ReadStep,
+    ) -> Result<(), AllocError>
+        requires { ExpectsLine a.now self.old number statement }
+        ensures { OnOk result (JudgesLine a.now self.old number statement self.new) }
     {
         match self {
-            Judged::Paired(miter) => Ok(Judged::Paired(miter)),
-            Judged::Holding(claims) => take_line(alloc, a, claims, number, statement),
-            Judged::Refused { line, cause } => Ok(Judged::Refused { line, cause }),
+            Judged::Paired(_) => Ok(()),
+            Judged::Holding(claims) => match claims.take(alloc, a, number, statement, room) {
+                Ok(()) => Ok(()),
+                Err(ClaimFault::Refused { line, cause }) => {
+                    self.refuse(line, cause);
+                    Ok(())
+                }
+                Err(ClaimFault::Memory) => Err(AllocError),
+            },
+            Judged::Refused { .. } => {
+                leave(statement, room);
+                Ok(())
+            }
         }
     }
 
@@ -103,24 +134,5 @@ impl Judged {
             Judged::Holding(_) => Ok(()),
             Judged::Refused { line, cause } => Err(ClaimFault::Refused { line, cause }),
         }
-    }
-}
-
-/// A line where no claim failed so far.
-fn take_line(
-    alloc: Global,
-    a: &Lll,
-    claims: Claims,
-    number: u64,
-    statement: Statement,
-) -> Result<Judged, AllocError>
-    requires { ExpectsLine a.now (judged.Holding claims) number statement }
-    ensures { IfOk result (JudgesLine a.now (judged.Holding claims) number statement) }
-{
-    let mut claims = claims;
-    match claims.take(alloc, a, number, statement) {
-        Ok(()) => Ok(Judged::Holding(claims)),
-        Err(ClaimFault::Refused { line, cause }) => Ok(Judged::Refused { line, cause }),
-        Err(ClaimFault::Memory) => Err(AllocError),
     }
 }

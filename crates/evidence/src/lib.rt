@@ -18,6 +18,8 @@ mod evidence;
 mod fault;
 mod laws;
 mod lines;
+mod open_log;
+mod read_step;
 mod reader_counts;
 mod reader_due;
 mod reader_feed;
@@ -31,7 +33,6 @@ mod reader_said;
 mod reader_tests;
 mod refutation;
 mod sending;
-mod spent;
 mod summary;
 #[cfg(test)]
 mod tests;

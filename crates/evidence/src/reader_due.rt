@@ -7,12 +7,13 @@ ghost use Rattle.evidence.specs.Spelling.{bit};
 ghost use Rattle.evidence.specs.Readers.{Reads, VerdictFits, step_content, verdict_content};
 ghost use Rattle.evidence.specs.Due.{due_kind, due_after, place_logs, after_verdict, IsDue, line_content};
 
+use crate::read_step::ReadStep;
 use crate::reader_fields::{after, bits, number_field, step};
 use crate::reader_lines::{Verdict, number_line, read_verdict};
 use kinduction::Spot;
-use rup_checker::Step;
 use sqlite_items::Items;
 use std::alloc::{AllocError, Global};
+use std::mem::replace;
 
 /// How many lines of each kind are due: steps come first, then logs, rows, an assignment, entries and the end.
 #[derive(Clone, Copy, Debug, PartialEq, Eq)]
@@ -40,7 +41,7 @@ pub enum Kind {
 /// What a line says.
 #[derive(Debug, Drop)]
 pub enum Statement {
-    Step(Step),
+    Step(ReadStep),
     /// A log begins, of so many steps.
     Log(u32),
     Row(Items<bool>),
@@ -164,19 +165,20 @@ fn entry_line(text: &[u8], number: u64, depth: u32) -> Option<Verdict>
     read_verdict(rest, depth)
 }
 
-/// What a line says that is due.
+/// What a line says that is due. A step is read into the room for one.
 pub(crate) fn read_line(
     alloc: Global,
     due: &Due,
     bounds: &Bounds,
     text: &[u8],
+    room: &mut ReadStep,
 ) -> Result<Option<Statement>, AllocError>
     requires number { due.now.number < 2 ^ 64 - 1 }
     requires depth { 1 ≤ bounds.now.depth }
     ensures { IfOk result (Reads (IsDue bounds.now due.now) (line_content due.now.number) text.now) }
 {
     match due.next_kind() {
-        Kind::Step => match step(alloc, text)? {
+        Kind::Step => match step(text, replace(room, ReadStep::empty(alloc)))? {
             Some(step) => Ok(Some(Statement::Step(step))),
             None => Ok(None),
         },

@@ -7,6 +7,7 @@ ghost use Rattle.evidence.specs.Stands.{IsReading, IsReadingShort, FailsIn, Keep
 ghost use Rattle.evidence.specs.Checking.{Answers};
 
 use crate::claims_judged::Judged;
+use crate::read_step::ReadStep;
 use crate::reader_fields::around;
 use crate::reader_judging::{answer, judge_on};
 use crate::reader_progress::Progress;
@@ -27,6 +28,8 @@ pub struct Feed {
     /// What came of it.
     pending: Vec<u8>,
     progress: Progress,
+    /// Room for the next step.
+    room: ReadStep,
     /// What is judged of its claims, once both models are read.
     judged: Option<Judged>,
     /// The first wrong line.
@@ -53,6 +56,7 @@ impl Feed {
             line: 1,
             pending: Vec::new(alloc),
             progress: Progress::new(alloc),
+            room: ReadStep::empty(alloc),
             judged: None,
             form: None,
             failed: false,
@@ -74,14 +78,30 @@ impl Feed {
         ensures keeps { Keeps self.old self.new }
     {
         if self.pending.is_empty() {
-            let said = self.progress.read(alloc, self.line, rest)?;
-            judge_on(alloc, &self.progress, &mut self.judged, self.line, said)?;
+            let said = self.progress.read(alloc, self.line, rest, &mut self.room)?;
+            judge_on(
+                alloc,
+                &self.progress,
+                &mut self.judged,
+                self.line,
+                said,
+                &mut self.room,
+            )?;
             self.line += 1;
             return Ok(());
         }
         self.pending.extend_from_slice(rest)?;
-        let said = self.progress.read(alloc, self.line, &self.pending)?;
-        judge_on(alloc, &self.progress, &mut self.judged, self.line, said)?;
+        let said = self
+            .progress
+            .read(alloc, self.line, &self.pending, &mut self.room)?;
+        judge_on(
+            alloc,
+            &self.progress,
+            &mut self.judged,
+            self.line,
+            said,
+            &mut self.room,
+        )?;
         self.pending.clear();
         self.line += 1;
         Ok(())

@@ -9,7 +9,7 @@ ghost use Rattle.evidence.specs.Counts.{IsLiteralNumber, IsStep};
 ghost use Rattle.evidence.specs.Spelling.{bit, literal_field, literals};
 ghost use Rattle.evidence.specs.Readers.{Reads, ReadsFront, step_content};
 
-use rup_checker::Step;
+use crate::read_step::ReadStep;
 use sqlite_items::Items;
 use std::alloc::{AllocError, Global};
 
@@ -121,11 +121,12 @@ fn literal_field(text: &[u8]) -> Option<(i32, &[u8])>
     literal(rest)
 }
 
-/// Hints, each after a space.
-pub(crate) fn hints(alloc: Global, text: &[u8]) -> Result<Option<Items<u32>>, AllocError>
-    ensures { IfOk result (Reads (All (λ h. h < 2 ^ 32)) (flat_map number_field) text.now) }
+/// Hints, each after a space, in the memory of others.
+pub(crate) fn hints(text: &[u8], room: Vec<u32>) -> Result<Option<Vec<u32>>, AllocError>
+    ensures { IfOk result (λ read. Reads (All (λ h. h < 2 ^ 32)) (flat_map number_field) text.now (option_map (λ hints. hints.items) read)) }
 {
-    let mut hints = Items::new(alloc);
+    let mut hints = room;
+    hints.clear();
     let mut rest = text;
     while !rest.is_empty() {
         match number_field(rest, 0xFFFF_FFFF) {
@@ -139,11 +140,12 @@ pub(crate) fn hints(alloc: Global, text: &[u8]) -> Result<Option<Items<u32>>, Al
     Ok(Some(hints))
 }
 
-/// Literals, parted by spaces.
-fn literals(alloc: Global, text: &[u8]) -> Result<Option<Items<i32>>, AllocError>
-    ensures { IfOk result (Reads (All IsLiteralNumber) literals text.now) }
+/// Literals, parted by spaces, in the memory of others.
+fn literals(text: &[u8], room: Vec<i32>) -> Result<Option<Vec<i32>>, AllocError>
+    ensures { IfOk result (λ read. Reads (All IsLiteralNumber) literals text.now (option_map (λ literals. literals.items) read)) }
 {
-    let mut literals = Items::new(alloc);
+    let mut literals = room;
+    literals.clear();
     if text.is_empty() {
         return Ok(Some(literals));
     }
@@ -183,27 +185,28 @@ pub(crate) fn around(text: &[u8], at: usize) -> (&[u8], &[u8])
 }
 
 /// A step whose colon stands there.
-fn step_at(alloc: Global, text: &[u8], colon: usize) -> Result<Option<Step>, AllocError>
+fn step_at(text: &[u8], colon: usize, room: ReadStep) -> Result<Option<ReadStep>, AllocError>
     requires { position (λ b. b == 58) text.now ≡ Some colon }
     ensures { IfOk result (Reads IsStep step_content text.now) }
 {
     let (front, back) = around(text, colon);
-    let clause = match literals(alloc, front)? {
+    let (literal_room, hint_room) = room.into_room();
+    let clause = match literals(front, literal_room)? {
         Some(clause) => clause,
         None => return Ok(None),
     };
-    match hints(alloc, back)? {
-        Some(hints) => Ok(Some(Step { clause, hints })),
+    match hints(back, hint_room)? {
+        Some(hints) => Ok(Some(ReadStep::new(clause, hints))),
         None => Ok(None),
     }
 }
 
-/// A step: its literals, a colon and its hints.
-pub(crate) fn step(alloc: Global, text: &[u8]) -> Result<Option<Step>, AllocError>
+/// A step: its literals, a colon and its hints. It is read into the memory of another.
+pub(crate) fn step(text: &[u8], room: ReadStep) -> Result<Option<ReadStep>, AllocError>
     ensures { IfOk result (Reads IsStep step_content text.now) }
 {
     match colon(text) {
-        Some(colon) => step_at(alloc, text, colon),
+        Some(colon) => step_at(text, colon, room),
         None => Ok(None),
     }
 }

@@ -7,77 +7,90 @@ ghost use Rattle.evidence.specs.declared.reader_said.Said.TheVariants as said;
 use crate::claim::ClaimFault;
 use crate::claims_following::{judge_end, judge_line, judge_models, judge_parts_line};
 use crate::claims_judged::Judged;
+use crate::read_step::ReadStep;
 use crate::reader_due::Statement;
+use crate::reader_lines::EqualLine;
 use crate::reader_progress::Progress;
 use crate::reader_said::Said;
 use crate::{EvidenceFault, Line, Summary};
 use sqlite_items::Items;
 use std::alloc::{AllocError, Global};
 
-/// A line after that of the parts.
+/// A line after that of the parts. A step leaves its memory as room for the next.
 fn judge_statement(
     alloc: Global,
     progress: &Progress,
-    judged: Option<Judged>,
+    judged: &mut Option<Judged>,
     number: u64,
     statement: Statement,
-) -> Result<Option<Judged>, AllocError>
-    requires { IsToBeJudged judged number (said.Line statement) progress.now }
-    ensures { IfOk result (KeepsOn judged number (said.Line statement) progress.now) }
+    room: &mut ReadStep,
+) -> Result<(), AllocError>
+    requires { IsToBeJudged judged.old number (said.Line statement) progress.now }
+    ensures { OnOk result (KeepsOn judged.old number (said.Line statement) progress.now judged.new) }
 {
     match statement {
-        Statement::End => Ok(judged),
+        Statement::End => Ok(()),
         _ => match judged {
-            Some(judged) => {
-                let now = judge_line(alloc, &progress.first, judged, number, statement)?;
-                Ok(Some(now))
-            }
+            Some(judged) => judge_line(alloc, &progress.first, judged, number, statement, room),
             None => unreachable!(),
         },
     }
 }
 
-/// A line of this number that says this, after which the progress is so.
-pub(crate) fn judge_said(
+/// The last line of the second model.
+fn judge_pair(
     alloc: Global,
     progress: &Progress,
-    judged: Option<Judged>,
+    judged: &mut Option<Judged>,
     number: u64,
-    said: Said,
-) -> Result<Option<Judged>, AllocError>
-    requires { IsToBeJudged judged number said progress.now }
-    ensures { IfOk result (KeepsOn judged number said progress.now) }
+) -> Result<(), AllocError>
+    requires { IsToBeJudged judged.old number said.Models progress.now }
+    ensures { OnOk result (KeepsOn judged.old number said.Models progress.now judged.new) }
 {
-    match said {
-        Said::Nothing => Ok(judged),
-        Said::Models => {
-            let now = judge_models(alloc, progress, progress.heading)?;
-            Ok(Some(now))
+    let now = judge_models(alloc, progress, progress.heading)?;
+    *judged = Some(now);
+    Ok(())
+}
+
+/// The line of the parts.
+fn judge_parts(
+    alloc: Global,
+    progress: &Progress,
+    judged: &mut Option<Judged>,
+    number: u64,
+    parts: EqualLine,
+) -> Result<(), AllocError>
+    requires { IsToBeJudged judged.old number (said.Parts parts) progress.now }
+    ensures { OnOk result (KeepsOn judged.old number (said.Parts parts) progress.now judged.new) }
+{
+    match judged.take() {
+        Some(before) => {
+            let now = judge_parts_line(alloc, progress, before, number, parts)?;
+            *judged = Some(now);
+            Ok(())
         }
-        Said::Parts(parts) => match judged {
-            Some(judged) => {
-                let now = judge_parts_line(alloc, progress, judged, number, parts)?;
-                Ok(Some(now))
-            }
-            None => unreachable!(),
-        },
-        Said::Line(statement) => judge_statement(alloc, progress, judged, number, statement),
+        None => unreachable!(),
     }
 }
 
-/// The same, in place.
+/// A line of this number that says this, after which the progress is so. A step leaves its memory as room for the next.
 pub(crate) fn judge_on(
     alloc: Global,
     progress: &Progress,
     judged: &mut Option<Judged>,
     number: u64,
     said: Said,
+    room: &mut ReadStep,
 ) -> Result<(), AllocError>
     requires { IsToBeJudged judged.old number said progress.now }
     ensures { OnOk result (KeepsOn judged.old number said progress.now judged.new) }
 {
-    *judged = judge_said(alloc, progress, judged.take(), number, said)?;
-    Ok(())
+    match said {
+        Said::Nothing => Ok(()),
+        Said::Models => judge_pair(alloc, progress, judged, number),
+        Said::Parts(parts) => judge_parts(alloc, progress, judged, number, parts),
+        Said::Line(statement) => judge_statement(alloc, progress, judged, number, statement, room),
+    }
 }
 
 /// What is answered of a text that is read to its end, where these lines sum it up.

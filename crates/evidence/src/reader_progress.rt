@@ -10,6 +10,7 @@ ghost use Rattle.evidence.specs.Telling.{Tells};
 ghost use Rattle.evidence.specs.declared.reader_progress.Stage.TheVariants as stage;
 
 use crate::Line;
+use crate::read_step::ReadStep;
 use crate::reader_counts::{input_count, part_count};
 use crate::reader_due::{Bounds, Due, Statement, read_line};
 use crate::reader_lines::{EqualLine, Verdict, equal_line, number_line};
@@ -340,7 +341,13 @@ impl Progress {
     }
 
     /// A line of what is shown.
-    fn body(&mut self, alloc: Global, number: u64, line: &[u8]) -> Result<Said, Unread>
+    fn body(
+        &mut self,
+        alloc: Global,
+        number: u64,
+        line: &[u8],
+        room: &mut ReadStep,
+    ) -> Result<Said, Unread>
         requires stage { self.old.stage ≡ stage.Body }
         requires fine { IsFine self.old.stage self.old }
         requires within { IsWithinLine line.now }
@@ -350,7 +357,7 @@ impl Progress {
         ensures adds { OnOk result (AddsLine stage.Body self.old number line.now self.new) }
         ensures wrong { IfErr result (IsWrongLine self.old number line.now) }
     {
-        match read_line(alloc, &self.due, &self.bounds, line)? {
+        match read_line(alloc, &self.due, &self.bounds, line, room)? {
             Some(statement) => {
                 self.advance(&statement)?;
                 Ok(Said::Line(statement))
@@ -359,8 +366,14 @@ impl Progress {
         }
     }
 
-    /// The line of this number, without its line feed.
-    pub(crate) fn read(&mut self, alloc: Global, number: u64, line: &[u8]) -> Result<Said, Unread>
+    /// The line of this number, without its line feed. There is room for a step.
+    pub(crate) fn read(
+        &mut self,
+        alloc: Global,
+        number: u64,
+        line: &[u8],
+        room: &mut ReadStep,
+    ) -> Result<Said, Unread>
         requires fine { IsFine self.old.stage self.old }
         requires within { IsWithinLine line.now }
         ensures fine { OnOk result (IsFine self.new.stage self.new) }
@@ -378,7 +391,7 @@ impl Progress {
             Stage::SecondHeading => self.second_heading(number, line),
             Stage::SecondModel => self.second_model(alloc, line),
             Stage::Equal => self.equal(alloc, number, line),
-            Stage::Body => self.body(alloc, number, line),
+            Stage::Body => self.body(alloc, number, line, room),
             Stage::End => Err(Unread::Form(number)),
         }
     }

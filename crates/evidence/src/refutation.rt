@@ -1,30 +1,31 @@
 //! A log that is to refute a formula, step by step.
 
-ghost use Rattle.std.specs.Prelude.{◌≡◌, ◌↔◌, ◌+◌, ◌^◌, ◌<◌, ℕ, List, [], length, IsTrue, IfOk};
+ghost use Rattle.std.specs.Prelude.{◌↔◌, List, [], IsTrue, IfOk};
 ghost use Rattle.rup_checker.specs.declared.log.Step.{Step as StepValue};
 ghost use Rattle.rup_checker.specs.Formulas.{Cnf};
-ghost use Rattle.rup_checker.specs.Logs.{Accepts, IsEnded};
-ghost use Rattle.evidence.specs.Refusals.{line_after, RefutationFails};
-ghost use Rattle.evidence.specs.Claims.{Judges, IsStopped, HasTaken, HasRefuted, TakesStep, TakesSteps};
+ghost use Rattle.rup_checker.specs.Logs.{IsEnded};
+ghost use Rattle.evidence.specs.Claims.{IsStopped, HasTaken, HasRefuted, TakesStep};
 
 use crate::Cause;
 use crate::claim::ClaimFault;
-use rup_checker::{Checker, Formula, Log, Step, StepFault};
+use crate::read_step::ReadStep;
+use rup_checker::{Checker, Formula, StepFault};
 use std::alloc::{AllocError, Global};
 
 /// What is known of a log so far.
 #[derive(Debug, Drop)]
-pub(crate) struct Refutation {
+pub struct Refutation {
     checker: Checker,
     /// Whether the last step was the empty clause.
     is_ended: bool,
 }
 
-fn take_step(checker: &mut Checker, step: &Step) -> Result<(), StepFault>
+/// Gives a checker the next step.
+pub(crate) fn take_step(checker: &mut Checker, step: &ReadStep) -> Result<(), StepFault>
     ensures { (f : Cnf) (steps : List StepValue) → HasTaken f steps checker.old →
         TakesStep (HasTaken f) f steps step.now checker.new result }
 {
-    checker.step(step.clause.as_slice(), step.hints.as_slice())
+    checker.step(step.literals(), step.hints())
 }
 
 impl Refutation {
@@ -39,12 +40,12 @@ impl Refutation {
     }
 
     /// Takes the next step.
-    pub(crate) fn step(&mut self, step: &Step) -> Result<(), StepFault>
+    pub(crate) fn step(&mut self, step: &ReadStep) -> Result<(), StepFault>
         ensures { (f : Cnf) (steps : List StepValue) → HasRefuted f steps self.old →
             TakesStep (HasRefuted f) f steps step.now self.new result }
     {
         take_step(&mut self.checker, step)?;
-        self.is_ended = step.clause.is_empty();
+        self.is_ended = step.literals().is_empty();
         Ok(())
     }
 
@@ -57,7 +58,7 @@ impl Refutation {
 }
 
 /// What is answered where a step in this line is refused.
-fn stopped(fault: StepFault, line: u64) -> ClaimFault
+pub(crate) fn stopped(fault: StepFault, line: u64) -> ClaimFault
     ensures { IsStopped fault line result }
 {
     let cause = match fault {
@@ -68,46 +69,4 @@ fn stopped(fault: StepFault, line: u64) -> ClaimFault
         StepFault::Memory => return ClaimFault::Memory,
     };
     ClaimFault::Refused { line, cause }
-}
-
-/// Takes the steps of a log, whose first line is the one with this number.
-pub(crate) fn take_steps(
-    alloc: Global,
-    formula: Formula,
-    log: &Log,
-    at: u64,
-) -> Result<Refutation, ClaimFault>
-    requires { at + length log.now.steps < 2 ^ 63 }
-    ensures { TakesSteps formula at log.now.steps result }
-{
-    let mut refutation = Refutation::new(alloc, formula)?;
-    let steps = log.steps.as_slice();
-    for (place, step) in steps.iter().enumerate() {
-        match refutation.step(step) {
-            Ok(()) => {}
-            Err(fault) => return Err(stopped(fault, at + place as u64 + 1)),
-        }
-    }
-    Ok(refutation)
-}
-
-/// Whether a log refutes the formula.
-pub(crate) fn judge_refutation(
-    alloc: Global,
-    formula: Formula,
-    log: &Log,
-    at: u64,
-) -> Result<(), ClaimFault>
-    requires { at + length log.now.steps < 2 ^ 63 }
-    ensures { (front : List ℕ) → at ≡ line_after front →
-        Judges (Accepts formula log.now.steps) (RefutationFails formula front log.now) result }
-{
-    let refutation = take_steps(alloc, formula, log, at)?;
-    if refutation.is_ended() {
-        return Ok(());
-    }
-    Err(ClaimFault::Refused {
-        line: at,
-        cause: Cause::Unended,
-    })
 }

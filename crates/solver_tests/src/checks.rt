@@ -227,6 +227,18 @@ fn tells_busy_logs(rt: HostRuntime) -> Result<(), Fail> {
     Ok(())
 }
 
+#[test]
+fn a_checker_tells_busy_clauses(rt: HostRuntime) -> Result<(), Fail> {
+    let alloc = rt.alloc();
+    for &(clauses, expected) in &[(HALF, true), (BROKEN_CHAIN, false)] {
+        let formula = formula(alloc, 6, clauses)?;
+        let from = formula.len();
+        let checker = Checker::owning(alloc, formula)?;
+        assert_eq!(rt; checker.is_busy(alloc, from)?, expected);
+    }
+    Ok(())
+}
+
 /// Compiles and is proved where values of the type may go from thread to thread and be shared by threads.
 fn crosses_threads<T: Send + Sync>() {}
 

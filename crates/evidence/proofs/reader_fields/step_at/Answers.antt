@@ -1,10 +1,11 @@
-use Rattle.std.proofs.Common.{◌^◌, ◌<◌, ℕ, List, Some, None, subst}
+use Rattle.std.proofs.Common.{◌^◌, ◌<◌, ℕ, List, Some, None, sym, subst}
 use Rattle.std.specs.Prelude.{All}
 use Rattle.std.specs.List.{flat_map}
 use Rattle.lll_text.specs.Spelling.{number_field}
-use Rattle.evidence.specs.Counts.{IsLiteralNumber}
+use Rattle.rup_checker.specs.declared.log.Step.{Step}
+use Rattle.evidence.specs.Counts.{IsLiteralNumber, IsStep}
 use Rattle.evidence.specs.Spelling.{literals}
-use Rattle.evidence.specs.Readers.{Reads}
+use Rattle.evidence.specs.Readers.{Reads, step_content}
 use Rattle.evidence.proofs.ReadSteps.{parted, step_read, no_clause, no_hints}
 use Rattle.evidence.proofs.reader_fields.step_at.Goals as goal
 
@@ -18,9 +19,10 @@ returns-in-None c =
 
 pub returns-in-Some-2 : goal.returns-in-Some-2
 returns-in-Some-2 c =
-    step_read c.args.text.now c.args.colon c.in-Some.clause c.in-Some-2.hints (parted c.args.text.now c.args.colon c.requires)
-    (subst (λ (t : List ℕ). Reads (All IsLiteralNumber) literals t (Some c.in-Some.clause)) c.around.ensures.front (rw c.in-Some.is at c.in_ok-clause.ensures))
-    (subst (λ (t : List ℕ). Reads (All (λ h. h < 2 ^ 32)) (flat_map number_field) t (Some c.in-Some-2.hints)) c.around.ensures.back (rw c.in-Some-2.is at c.in_ok-hints.ensures))
+    subst (λ (s : Step). Reads IsStep step_content c.args.text.now (Some s)) (sym c.new.ensures)
+    (step_read c.args.text.now c.args.colon c.in-Some.clause.items c.in-Some-2.hints.items (parted c.args.text.now c.args.colon c.requires)
+    (subst (λ (t : List ℕ). Reads (All IsLiteralNumber) literals t (Some c.in-Some.clause.items)) c.around.ensures.front (rw c.in-Some.is at c.in_ok-clause.ensures))
+    (subst (λ (t : List ℕ). Reads (All (λ h. h < 2 ^ 32)) (flat_map number_field) t (Some c.in-Some-2.hints.items)) c.around.ensures.back (rw c.in-Some-2.is at c.in_ok-hints.ensures)))
 
 pub returns-in-None-2 : goal.returns-in-None-2
 returns-in-None-2 c =

@@ -1,25 +1,25 @@
-use Rattle.std.proofs.Common.{ℕ, ◌∙◌, List, Err, refl, ap, sym, subst}
+use Rattle.std.proofs.Common.{◌∙◌, length, Err, refl, ap, sym, subst}
 use Rattle.std.proofs.lemmas.Result.{err_from_is_err_and}
-use Rattle.lll_core.specs.declared.lll.Lll.{Lll}
-use Rattle.rup_checker.specs.declared.log.Step.{Step}
-use Rattle.evidence.specs.Claims.{Judges}
-use Rattle.evidence.specs.LogClaims.{LogHolds, LogFails}
+use Rattle.evidence.specs.declared.open_log.OpenLog.{OpenLog}
 use Rattle.evidence.specs.Judging.{claim_at}
+use Rattle.evidence.specs.Tracking.{Tracks, IsTracked}
 use Rattle.evidence.proofs.JudgingTurns.{closes_ok, closes_result}
 use Rattle.evidence.proofs.claims.Claims.close.Goals as goal
 
-pub returns-in_err-judge_log-clause-judged : goal.returns-in_err-judge_log-clause-judged
-returns-in_err-judge_log-clause-judged c = λ h s same j before begins.
+pub outcome-requires : goal.outcome-requires
+outcome-requires c = subst (IsTracked c.args.self.now.log_at) (sym c.replace-open_log.ensures.value) c.requires.tracked
+
+pub returns-in_err-outcome-clause-judged : goal.returns-in_err-outcome-clause-judged
+returns-in_err-outcome-clause-judged c = λ h s steps j before begins tracks.
     let p = err_from_is_err_and c.from_residual.result c.from_residual.ensures.1 in
     let self = c.args.self.now in
-    let fault = c.in_err-judge_log.field-0.0 in
-    let At = λ (l : Lll) (steps : List Step) (front : List ℕ). Judges (LogHolds self.conflicts (claim_at l self.miter self.place) (record { steps = steps })) (LogFails self.conflicts (claim_at l self.miter self.place) front (record { steps = steps })) (Err fault) in
-    closes_result h s self (record { steps = self.steps }) j before begins _ c.from_residual.result fault (p.1 ∙ ap Err p.2)
-    (λ front e. subst (λ (t : List Step). At h.a t front) c.replace-steps.ensures.value (subst (λ (l : Lll). At l c.replace-steps.result front) (sym same) (c.in_err-judge_log.ensures front e)))
+    let q = claim_at h.a self.miter self.place in
+    let there : Tracks self.conflicts q self.log_at (length steps) steps c.replace-open_log.result = subst (λ (o : OpenLog). Tracks self.conflicts q self.log_at (length steps) steps o) (sym c.replace-open_log.ensures.value) tracks in
+    closes_result h s self (record { steps = steps }) j before begins _ c.from_residual.result c.in_err-outcome.field-0.0 (p.1 ∙ ap Err p.2) (λ front e. c.in_err-outcome.ensures self.conflicts q steps front there e)
 
 pub returns-clause-judged : goal.returns-clause-judged
-returns-clause-judged c = λ h s same j before begins.
+returns-clause-judged c = λ h s steps j before begins tracks.
     let self = c.args.self.now in
-    let At = λ (l : Lll) (steps : List Step). LogHolds self.conflicts (claim_at l self.miter self.place) (record { steps = steps }) in
-    closes_ok h s self (record { steps = self.steps }) j before begins _ (record { depth = refl; conflicts = refl; miter = refl; place = c.after_log-self.ensures; rows = refl; rows_at = refl })
-    (λ front e. subst (At h.a) c.replace-steps.ensures.value (subst (λ (l : Lll). At l c.replace-steps.result) (sym same) (c.in_ok-judge_log.ensures front e)))
+    let q = claim_at h.a self.miter self.place in
+    let there : Tracks self.conflicts q self.log_at (length steps) steps c.replace-open_log.result = subst (λ (o : OpenLog). Tracks self.conflicts q self.log_at (length steps) steps o) (sym c.replace-open_log.ensures.value) tracks in
+    closes_ok h s self (record { steps = steps }) j before begins _ (record { depth = refl; conflicts = refl; miter = refl; place = c.after_log-self.ensures; rows = refl; rows_at = refl }) (λ front e. c.in_ok-outcome.ensures self.conflicts q steps front there e)

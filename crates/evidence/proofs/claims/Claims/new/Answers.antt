@@ -13,4 +13,4 @@ pub returns : goal.returns
 returns c = λ h depth conflicts few obligations paired is begins.
     let yes : c.fits.result ≡ true = search rules in
     let small : IsSmallFormula (line_instants c.args.said) (length c.args.miter.lll.signals) = subst (λ (n : ℕ). IsSmallFormula n (length c.args.miter.lll.signals)) c.instants_of_line.ensures (c.fits.ensures.0 yes) in
-    begun h c.args.said _ depth conflicts refl refl c.new.ensures (few, obligations, paired, is) small
+    begun h c.args.said _ depth conflicts refl refl (few, obligations, paired, is) small

@@ -1,11 +1,14 @@
 use Rattle.std.proofs.Common.{Bool, List, sym, subst}
 use Rattle.evidence.specs.declared.reader_due.Statement.{Statement}
 use Rattle.evidence.specs.declared.reader_due.Statement.TheVariants as line
-use Rattle.evidence.specs.Judging.{TakesLineOf}
+use Rattle.evidence.specs.Judging.{Expects, TakesLineOf}
 use Rattle.evidence.proofs.claims.Claims.take.Goals as goal
 
+pub step-requires : goal.step-requires
+step-requires c = (c.args.a.now, subst (λ (s : Statement). Expects c.args.a.now c.args.self.now c.args.number s) c.in-Step.is c.requires)
+
 pub returns-in-Step : goal.returns-in-Step
-returns-in-Step c = subst (λ (s : Statement). TakesLineOf c.args.a.now c.args.self.now c.args.number s c.step.new.self c.step.result) (sym c.in-Step.is) (c.step.ensures c.args.number)
+returns-in-Step c = subst (λ (s : Statement). TakesLineOf c.args.a.now c.args.self.now c.args.number s c.step.new.self c.step.result) (sym c.in-Step.is) (c.step.ensures c.args.a.now)
 
 pub returns-in-Log : goal.returns-in-Log
 returns-in-Log c = subst (λ (s : Statement). TakesLineOf c.args.a.now c.args.self.now c.args.number s c.log.new.self c.log.result) (sym c.in-Log.is) c.log.ensures

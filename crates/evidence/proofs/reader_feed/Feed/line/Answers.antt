@@ -25,7 +25,7 @@ returns-then-is_empty-clause-reading c =
     let f = c.args.self.now in
     let rest = c.args.rest.now in
     let none : f.pending.items ≡ [] = grind (arith, common_steps) in
-    let g : Feed = record f { line = f.line + 1; progress = c.read.new.self; judged = c.judge_on.new.judged } in
+    let g : Feed = record f { line = f.line + 1; progress = c.read.new.self; room = c.judge_on.new.room; judged = c.judge_on.new.judged } in
     let read = c.in_ok-said.ensures in
     line_read f g rest rest c.in_ok-said.said (ap (λ (t : List ℕ). t ++ rest) (sym none)) c.requires.rest none refl (few_lines f (line rest) c.requires.short) read.taken read.fine read.adds read.tells c.in_ok-judge_on.ensures
 
@@ -34,7 +34,7 @@ returns-clause-reading c =
     let f = c.args.self.now in
     let rest = c.args.rest.now in
     let is : c.deref.result.now ≡ f.pending.items ++ rest = c.deref.ensures.value ∙ c.in_ok-extend_from_slice.ensures.items in
-    let g : Feed = record f { line = f.line + 1; pending = c.clear.new.self; progress = c.read-2.new.self; judged = c.judge_on-2.new.judged } in
+    let g : Feed = record f { line = f.line + 1; pending = c.clear.new.self; progress = c.read-2.new.self; room = c.judge_on-2.new.room; judged = c.judge_on-2.new.judged } in
     let read = c.in_ok-said-2.ensures in
     line_read f g rest c.deref.result.now c.in_ok-said-2.said is (subst IsWithinLine (sym is) (both_within f.pending.items rest c.requires.pending c.requires.rest)) c.clear.ensures.items refl (few_lines f (line rest) c.requires.short)
     read.taken read.fine read.adds read.tells c.in_ok-judge_on-2.ensures

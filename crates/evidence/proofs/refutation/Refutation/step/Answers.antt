@@ -1,10 +1,11 @@
-use Rattle.std.proofs.Common.{◌≡◌, ◌⊎◌, sym, subst}
+use Rattle.std.proofs.Common.{◌≡◌, ◌⊎◌, List, [], sym, subst}
+use Rattle.std.specs.Prelude.{ℤ, ◌↔◌, IsTrue}
 use Rattle.std.proofs.lemmas.Result.{err_from_is_err_and}
 use Rattle.rup_checker.specs.declared.fault.StepFault.{StepFault}
 use Rattle.rup_checker.specs.declared.fault.StepFault.TheVariants as fault
 use Rattle.rup_checker.specs.Steps.{IsRefused}
 use Rattle.rup_checker.specs.Logs.{known}
-use Rattle.evidence.proofs.ClaimLemmas.{step_ended}
+use Rattle.evidence.proofs.ClaimLemmas.{is_nothing, step_ended}
 use Rattle.evidence.proofs.refutation.Refutation.step.Goals as goal
 
 pub returns-in_err-take_step : goal.returns-in_err-take_step
@@ -15,5 +16,6 @@ returns-in_err-take_step c = λ f steps has.
 pub returns : goal.returns
 returns c = λ f steps has. record {
   taken = c.in_ok-take_step.ensures f steps has.taken;
-  ended = step_ended steps c.args.step.now c.is_empty-self.result c.is_empty-self.ensures;
+  ended = step_ended steps c.args.step.now c.is_empty-self.result
+      (subst (λ (l : List ℤ). IsTrue c.is_empty-self.result ↔ (l ≡ [])) c.literals.ensures (is_nothing c.literals.result.now c.is_empty-self.result c.is_empty-self.ensures));
 }
