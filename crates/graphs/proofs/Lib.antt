@@ -1,0 +1,13 @@
+pub mod Pieces
+pub mod Lists
+pub mod PathLemmas
+pub mod OrderLemmas
+pub mod Existence
+pub mod CycleLemmas
+pub mod Segments
+pub mod Placing
+pub mod Answering
+pub mod SearchLemmas
+pub mod Spread
+pub mod Walking
+pub mod Arranging

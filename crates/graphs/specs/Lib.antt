@@ -1,0 +1,7 @@
+pub mod Graphs
+pub mod Paths
+pub mod Orders
+pub mod Cycles
+pub mod Parts
+pub mod Searches
+pub mod Spreading
