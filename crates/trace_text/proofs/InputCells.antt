@@ -1,9 +1,7 @@
 -- The cells of types and of variables, part by part, and how many they are.
-use Rattle.std.proofs.Common.{◌≡◌, ℕ, zero, suc, ◌+◌, ◌*◌, ◌-◌, ◌^◌, ◌≤◌, ◌<◌, min, ◌⊎◌, inl, inr, Bool, true, false, List, [], ◌∷◌, ◌++◌, map, length, refl, sym, ap, ◌∙◌, arith, append_assoc, zero-add, if◌then◌else◌}
+use Rattle.std.proofs.Common.{◌≡◌, ℕ, zero, suc, ◌+◌, ◌*◌, ◌-◌, ◌^◌, min, Bool, true, false, List, [], ◌∷◌, ◌++◌, map, length, refl, sym, ap, ◌∙◌, arith, append_assoc, zero-add, if◌then◌else◌}
 use Rattle.std.specs.Prelude.{codes, decimal}
 use Rattle.std.specs.List.{flat_map, list_any, range_with_len}
-use Rattle.std.proofs.Math.Nat.{min-eq_left}
-use Rattle.std.proofs.lemmas.Bool.{cases_lt}
 use Rattle.std.proofs.lemmas.List.{append-nil, length-append, map-append}
 use Rattle.std.proofs.lemmas.Grind.{flat_map-append}
 use Rattle.hll_tree.specs.declared.tree.Def.{Def}
@@ -17,12 +15,14 @@ use Rattle.hll_meaning.specs.Declarations.{names}
 use Rattle.hll_meaning.specs.Runs.{definitions, variables_among}
 use Rattle.hll_meaning.specs.StaticRules.{definitions_of, part_kind}
 use Rattle.hll_meaning.specs.Cells.{Cell, named_cells, field_cells, cells_of_all, text_cells, input_kind, input_cells}
-use Rattle.hll_meaning.proofs.AreIn.{copies, copies_more, copies_none, repeated_copies}
 use Rattle.hll_types.specs.declared.variables.Role.{Role}
 use Rattle.hll_types.specs.declared.variables.Role.TheVariants as role
 use Rattle.hll_types.specs.declared.variables.Variable.{Variable}
+use Rattle.hll_types.specs.declared.measure.Measure.{Measure}
+use Rattle.hll_types.specs.Measures.{capped, field_kinds_of, fields_measure, kind_measure}
 use Rattle.hll_types.specs.Checked.{is_memory, role_by, roles_among, AreVariables}
-use Rattle.trace_text.specs.Parts.{capped, cells_by_role, fields_kinds, own_cells}
+use Rattle.hll_types.proofs.Measuring.{measure-array, measure_further, sum_within}
+use Rattle.trace_text.specs.Parts.{cells_by_role, own_cells}
 
 -- ---- parts
 
@@ -43,12 +43,12 @@ elements_more name k i =
 
 -- the cells of one field more
 pub fields_more : (name : Text) (fields : List FieldTy) (f : FieldTy) →
-    field_cells name (fields_kinds (fields ++ f ∷ [])) ≡ field_cells name (fields_kinds fields) ++ named_cells (name ++ codes "." ++ name_text f.name) (kind_of f.ty)
+    field_cells name (field_kinds_of (fields ++ f ∷ [])) ≡ field_cells name (field_kinds_of fields) ++ named_cells (name ++ codes "." ++ name_text f.name) (kind_of f.ty)
 fields_more name [] f = append-nil (named_cells (name ++ codes "." ++ name_text f.name) (kind_of f.ty))
 fields_more name (e ∷ fields) f =
     let own = named_cells (name ++ codes "." ++ name_text e.name) (kind_of e.ty) in
     ap (λ cs. own ++ cs) (fields_more name fields f)
-    ∙ sym (append_assoc own (field_cells name (fields_kinds fields)) (named_cells (name ++ codes "." ++ name_text f.name) (kind_of f.ty)))
+    ∙ sym (append_assoc own (field_cells name (field_kinds_of fields)) (named_cells (name ++ codes "." ++ name_text f.name) (kind_of f.ty)))
 
 -- ---- variables
 
@@ -95,49 +95,19 @@ own_more vs v = flat_map-append own_cells vs (v ∷ []) ∙ ap (λ cs. flat_map 
 
 -- ---- how many they are
 
-sum_within : (g a b : ℕ) → min (min a g + min b g) g ≡ min (a + b) g
-sum_within g a b = omega arith
-
-product_within : (g a n : ℕ) → min (min a g * n) g ≡ min (n * a) g
-product_within g a zero = omega arith
-product_within g a (suc n) = either (cases_lt g a)
-  where
-    small : a ≤ g → min (min a g * suc n) g ≡ min (suc n * a) g
-    small le = let same : a * suc n ≡ suc n * a = omega arith in ap (λ x. min (x * suc n) g) (min-eq_left le) ∙ ap (λ x. min x g) same
-
-    great : g < a → min (min a g * suc n) g ≡ min (suc n * a) g
-    great lt =
-        let all : min a g ≡ g = omega arith in
-        let left : min (g * suc n) g ≡ g = omega arith in
-        let right : min (suc n * a) g ≡ g = omega arith in
-        ap (λ x. min (x * suc n) g) all ∙ left ∙ sym right
-
-    either : (g < a) ⊎ (a ≤ g) → min (min a g * suc n) g ≡ min (suc n * a) g
-    either (inl lt) = great lt
-    either (inr le) = small le
-
-length-copies : {A : Type 0} (n : ℕ) (xs : List A) → length (copies n xs) ≡ n * length xs
-length-copies zero xs = ap length (copies_none xs) ∙ omega arith
-length-copies (suc n) xs = ap length (copies_more n xs) ∙ omega (arith, length-append xs (copies n xs), length-copies n xs)
-
 -- the cells of an array, held
 pub array_held : (size : ℕ) (k : Kind) (a : ℕ) → a ≡ capped (cells k) → min (a * size) (2 ^ 64 - 1) ≡ capped (cells (array size k))
 array_held size k a p =
-    ap (λ (n : ℕ). min (n * size) (2 ^ 64 - 1)) p ∙ product_within (2 ^ 64 - 1) (cells k) size ∙ ap capped (sym (ap length (repeated_copies size (ranges k)) ∙ length-copies size (ranges k)))
+    ap (λ (n : ℕ). min (n * size) (2 ^ 64 - 1)) p ∙ ap (λ (m : Measure). m.cells) (measure-array size k (kind_measure k) refl)
 
 -- the cells of fields
 abbrev pub fields_count : List FieldTy → ℕ
-fields_count fields = length (field_ranges (fields_kinds fields))
-
-fields_further : (fields : List FieldTy) (f : FieldTy) → fields_count (fields ++ f ∷ []) ≡ fields_count fields + cells (kind_of f.ty)
-fields_further [] f = omega (arith, length-append (ranges (kind_of f.ty)) [])
-fields_further (e ∷ fields) f =
-    omega (arith, length-append (ranges (kind_of e.ty)) (field_ranges (fields_kinds (fields ++ f ∷ []))), length-append (ranges (kind_of e.ty)) (field_ranges (fields_kinds fields)), fields_further fields f)
+fields_count fields = length (field_ranges (field_kinds_of fields))
 
 -- one field more, held
 pub fields_held : (fields : List FieldTy) (f : FieldTy) (a b : ℕ) → a ≡ capped (fields_count fields) → b ≡ capped (cells (kind_of f.ty)) → min (a + b) (2 ^ 64 - 1) ≡ capped (fields_count (fields ++ f ∷ []))
 fields_held fields f a b p q =
-    (λ i. min (p i + q i) (2 ^ 64 - 1)) ∙ sum_within (2 ^ 64 - 1) (fields_count fields) (cells (kind_of f.ty)) ∙ ap capped (sym (fields_further fields f))
+    (λ i. min (p i + q i) (2 ^ 64 - 1)) ∙ ap (λ (m : Measure). m.cells) (measure_further fields f (fields_measure (field_kinds_of fields)) (kind_measure (kind_of f.ty)) refl refl)
 
 length_flat : {A B C : Type 0} (f : A → List B) (g : A → List C) → ((x : A) → length (f x) ≡ length (g x)) → (xs : List A) → length (flat_map f xs) ≡ length (flat_map g xs)
 length_flat f g same [] = refl

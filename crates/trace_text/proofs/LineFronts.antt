@@ -15,7 +15,8 @@ use Rattle.trace_text.specs.declared.fault.TraceKind.{TraceKind}
 use Rattle.trace_text.specs.declared.fault.TraceKind.TheVariants as wrong
 use Rattle.trace_text.specs.declared.fault.Unread.{Unread}
 use Rattle.trace_text.specs.declared.fault.Unread.TheVariants as unread
-use Rattle.trace_text.specs.Parts.{capped, cell_of, AreLines, AreRead, AreUnread, IsLine, IsUnreadCell, IsUnreadLine, IsWrongCell}
+use Rattle.hll_types.specs.Measures.{capped}
+use Rattle.trace_text.specs.Parts.{cell_of, AreLines, AreRead, AreUnread, IsLine, IsUnreadCell, IsUnreadLine, IsWrongCell}
 use Rattle.trace_text.specs.Traces.{cells_text, line_text, lines_text, value_text, AreFew, AreValues}
 use Rattle.trace_text.specs.Faults.{HasValue, IsDue, IsRightUpTo, IsWrong, LacksEnd, Never, Stand}
 

@@ -1,14 +1,13 @@
 -- Words for the contracts of private parts: columns, and what is read at the front of some bytes.
-use Rattle.std.specs.Prelude.{◌≡◌, ℕ, ◌+◌, ◌-◌, ◌^◌, ◌<◌, ◌*◌, ◌==◌, min, ℤ, unsigned_abs, Bool, true, false, not, fold, List, [], ◌∷◌, ◌++◌, decimal, length, map, Some, slice_get}
+use Rattle.std.specs.Prelude.{◌≡◌, ℕ, ◌+◌, ◌-◌, ◌^◌, ◌<◌, ◌*◌, ◌==◌, ℤ, unsigned_abs, Bool, true, false, not, fold, List, [], ◌∷◌, ◌++◌, decimal, length, Some, slice_get}
 use Rattle.std.specs.Fmt.{signed_decimal}
 use Rattle.hll_lexer.specs.Numbers.{is_digit}
 use Rattle.hll_lexer.specs.Pieces.{Stops}
 use Rattle.hll_tree.specs.declared.tree.HllModel.{HllModel}
 use Rattle.hll_tree.specs.Printing.{Text, name_text}
-use Rattle.hll_meaning.specs.declared.ty.FieldTy.{FieldTy}
-use Rattle.hll_meaning.specs.Kinds.{Kind, truth, whole, element, Fields}
+use Rattle.hll_meaning.specs.Kinds.{Kind, truth, whole, element}
 use Rattle.hll_meaning.specs.Names.{Names}
-use Rattle.hll_meaning.specs.Types.{ends, fields_of, kind_of}
+use Rattle.hll_meaning.specs.Types.{ends, kind_of}
 use Rattle.hll_meaning.specs.Declarations.{names}
 use Rattle.hll_meaning.specs.Cells.{Cell, input_cells, named_cells}
 use Rattle.hll_types.specs.declared.variables.Role.{Role}
@@ -37,14 +36,6 @@ kind_of_values (values.Elements root i) = element root (ends i)
 -- the cell of a column
 abbrev pub cell_of : Column → Cell
 cell_of c = record { name = c.name; kind = kind_of_values c.values }
-
--- the fields of a struct by their names and kinds
-abbrev pub fields_kinds : List FieldTy → Fields
-fields_kinds fields = fields_of (map (λ f. (f.name, kind_of f.ty)) fields)
-
--- a number, or the greatest one of 64 digits where it is greater
-abbrev pub capped : ℕ → ℕ
-capped n = min n (2 ^ 64 - 1)
 
 -- ---- inputs
 

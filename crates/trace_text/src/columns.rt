@@ -5,7 +5,8 @@ ghost use Rattle.hll_tree.specs.Printing.{name_text};
 ghost use Rattle.hll_meaning.specs.Cells.{field_cells, input_cells, named_cells};
 ghost use Rattle.hll_meaning.specs.Kinds.{array};
 ghost use Rattle.hll_meaning.specs.Types.{kind_of};
-ghost use Rattle.trace_text.specs.Parts.{cell_of, fields_kinds, kind_of_values, own_cells};
+ghost use Rattle.hll_types.specs.Measures.{field_kinds_of};
+ghost use Rattle.trace_text.specs.Parts.{cell_of, kind_of_values, own_cells};
 
 use crate::spelling::{push_name, push_number};
 use hll_lexer::Word;
@@ -90,7 +91,7 @@ fn push_fields(
     name: &[u8],
     fields: &[FieldTy],
 ) -> Result<(), AllocError>
-    ensures { OnOk result (map cell_of columns.new.items ≡ map cell_of columns.old.items ++ field_cells name.now (fields_kinds fields.now)) }
+    ensures { OnOk result (map cell_of columns.new.items ≡ map cell_of columns.old.items ++ field_cells name.now (field_kinds_of fields.now)) }
 {
     for field in fields {
         let own = field_name(alloc, name, field.name.bytes())?;

@@ -5,7 +5,8 @@ ghost use Rattle.hll_meaning.specs.Cells.{input_cells, text_cells};
 ghost use Rattle.hll_meaning.specs.Declarations.{names};
 ghost use Rattle.hll_meaning.specs.StaticRules.{Well};
 ghost use Rattle.trace_text.specs.Faults.{IsFaultOf, Never};
-ghost use Rattle.trace_text.specs.Parts.{capped, cell_of, fault_in, AreRead, AreUnread, IsLine, IsRead, IsUnreadCell, IsUnreadLine};
+ghost use Rattle.hll_types.specs.Measures.{capped};
+ghost use Rattle.trace_text.specs.Parts.{cell_of, fault_in, AreRead, AreUnread, IsLine, IsRead, IsUnreadCell, IsUnreadLine};
 ghost use Rattle.trace_text.specs.Traces.{rows_of, Spells};
 
 use crate::columns::{Column, columns};

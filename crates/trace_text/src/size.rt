@@ -4,7 +4,7 @@ ghost use Rattle.std.specs.Prelude.{◌≡◌, ◌+◌, ◌^◌, ◌<◌, ◌≤
 ghost use Rattle.hll_meaning.specs.Cells.{text_cells};
 ghost use Rattle.hll_meaning.specs.Kinds.{cells, field_ranges};
 ghost use Rattle.hll_meaning.specs.Types.{kind_of};
-ghost use Rattle.trace_text.specs.Parts.{capped, fields_kinds};
+ghost use Rattle.hll_types.specs.Measures.{capped, field_kinds_of};
 ghost use Rattle.trace_text.specs.Traces.{AreFew};
 
 use hll_meaning::{FieldTy, Ty};
@@ -19,7 +19,7 @@ const MOST_VALUES: u64 = 4_000_000;
 /// The cells of fields together, held at the greatest number.
 #[cycle(counting)]
 fn cells_of_fields(fields: &[FieldTy]) -> u64
-    ensures { result ≡ capped (length (field_ranges (fields_kinds fields.now))) }
+    ensures { result ≡ capped (length (field_ranges (field_kinds_of fields.now))) }
 {
     let mut count: u64 = 0;
     for field in fields {

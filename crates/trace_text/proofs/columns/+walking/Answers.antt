@@ -6,7 +6,8 @@ use Rattle.hll_meaning.specs.Cells.{field_cells, named_cells}
 use Rattle.hll_meaning.specs.Kinds.{array, element, struct, Kind}
 use Rattle.hll_meaning.specs.Types.{ends, kind_of}
 use Rattle.hll_meaning.proofs.KindForms.{kind_of_bool, kind_of_int, kind_of_elem, kind_of_array, kind_of_struct}
-use Rattle.trace_text.specs.Parts.{cell_of, fields_kinds}
+use Rattle.hll_types.specs.Measures.{field_kinds_of}
+use Rattle.trace_text.specs.Parts.{cell_of}
 use Rattle.trace_text.proofs.InputCells.{appended_more, elements_more, fields_more}
 use Rattle.trace_text.proofs.columns.+walking.Goals as goal
 
@@ -37,10 +38,10 @@ push_fields-loop-field-preserved t c =
     take_more fields c.loop-field.field-index f c.loop-field-test.true ∙ ap (λ x. before ++ x ∷ []) (sym c.field-item.is) in
     let own = c.as_slice.ensures.value ∙ c.in_ok-own.ensures ∙ ap (λ n. name ++ codes "." ++ name_text n) c.bytes.ensures in
     appended_more (map cell_of c.args.columns.now.items) (map cell_of c.loop-field.columns.items) (map cell_of c.push_cells.new.columns.items)
-    (field_cells name (fields_kinds before)) (named_cells (name ++ codes "." ++ name_text f.name) (kind_of f.ty)) (field_cells name (fields_kinds (take (c.loop-field.field-index + 1) fields)))
+    (field_cells name (field_kinds_of before)) (named_cells (name ++ codes "." ++ name_text f.name) (kind_of f.ty)) (field_cells name (field_kinds_of (take (c.loop-field.field-index + 1) fields)))
     c.loop-field.invariant
     (c.in_ok-push_cells.ensures ∙ ap (λ n. map cell_of c.loop-field.columns.items ++ named_cells n (kind_of f.ty)) own)
-    (ap (λ fs. field_cells name (fields_kinds fs)) more ∙ fields_more name before f)
+    (ap (λ fs. field_cells name (field_kinds_of fs)) more ∙ fields_more name before f)
 
 pub push_cells-returns-in-Bool : goal.push_cells-returns-in-Bool
 push_cells-returns-in-Bool t c =
@@ -68,5 +69,5 @@ push_cells-returns-in-Array t c =
 pub push_cells-returns-in-Struct : goal.push_cells-returns-in-Struct
 push_cells-returns-in-Struct t c =
     let P : Kind → Type 0 = λ k. OnOk c.push_fields.result (map cell_of c.push_fields.new.columns.items ≡ map cell_of c.args.columns.now.items ++ named_cells c.args.name.now k) in
-    let same = ap (λ fs. struct c.in-Struct.field-0 (fields_kinds fs)) c.as_slice.ensures ∙ sym (ap kind_of c.in-Struct.is ∙ kind_of_struct c.in-Struct.field-0 c.in-Struct.fields) in
+    let same = ap (λ fs. struct c.in-Struct.field-0 (field_kinds_of fs)) c.as_slice.ensures ∙ sym (ap kind_of c.in-Struct.is ∙ kind_of_struct c.in-Struct.field-0 c.in-Struct.fields) in
     subst P same c.push_fields.ensures

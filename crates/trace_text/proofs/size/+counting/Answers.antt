@@ -3,7 +3,7 @@ use Rattle.std.proofs.lemmas.List.{take_more}
 use Rattle.hll_meaning.specs.Kinds.{cells}
 use Rattle.hll_meaning.specs.Types.{kind_of}
 use Rattle.hll_meaning.proofs.KindForms.{kind_of_array, kind_of_struct}
-use Rattle.trace_text.specs.Parts.{capped}
+use Rattle.hll_types.specs.Measures.{capped}
 use Rattle.trace_text.proofs.InputCells.{array_held, fields_count, fields_held}
 use Rattle.trace_text.proofs.size.+counting.Goals as goal
 

@@ -1,5 +1,5 @@
 use Rattle.std.proofs.Common.{◌≡◌, take}
-use Rattle.trace_text.specs.Parts.{capped}
+use Rattle.hll_types.specs.Measures.{capped}
 use Rattle.trace_text.proofs.InputCells.{fields_count}
 use Rattle.trace_text.proofs.size.+counting.Given as goal
 

@@ -1,6 +1,6 @@
 use Rattle.std.proofs.Common.{◌≡◌, ◌+◌, [], ◌∷◌, ◌++◌, take, sym, ap, ◌∙◌}
 use Rattle.std.proofs.lemmas.List.{take_more, take_all}
-use Rattle.trace_text.specs.Parts.{capped}
+use Rattle.hll_types.specs.Measures.{capped}
 use Rattle.trace_text.proofs.InputCells.{count_of, count_more, count_all}
 use Rattle.trace_text.proofs.size.all_cells.Goals as goal
 
