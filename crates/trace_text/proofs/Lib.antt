@@ -1,7 +1,13 @@
 pub mod InputCells
 pub mod DistinctNames
+pub mod RootParts
 pub mod ElementCodes
 pub mod ElementNames
+pub mod DeclaredElements
+pub mod SpelledItems
+pub mod FilledSorts
+pub mod CoveredKinds
+pub mod NarrowKinds
 pub mod SignedNumbers
 pub mod LineTexts
 pub mod TextFronts
@@ -10,3 +16,4 @@ pub mod ValueFronts
 pub mod LineFronts
 pub mod OneReading
 pub mod OneText
+pub mod ReadableTexts

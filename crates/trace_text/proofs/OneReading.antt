@@ -13,9 +13,9 @@ use Rattle.hll_meaning.specs.StaticRules.{Well}
 use Rattle.hll_meaning.specs.Cells.{Cell}
 use Rattle.trace_text.specs.declared.fault.TraceKind.{TraceKind}
 use Rattle.trace_text.specs.declared.fault.TraceKind.TheVariants as wrong
-use Rattle.trace_text.specs.Parts.{IsShort, StandsName}
+use Rattle.trace_text.specs.Parts.{StandsName}
 use Rattle.trace_text.specs.Traces.{cells_text, element_name, value_text, AreValues}
-use Rattle.trace_text.specs.Faults.{Ends, HasValue, IsDue, Never, Stand}
+use Rattle.trace_text.specs.Faults.{Ends, HasValue, IsDue, IsShortIn, Never, Stand}
 use Rattle.trace_text.proofs.ElementNames.{one_element}
 use Rattle.trace_text.proofs.NumberFronts.{number_ends, one_whole}
 use Rattle.trace_text.proofs.TextFronts.{append_cancel}
@@ -35,7 +35,7 @@ one_word text a b x y (inr p) (inr q) = (p.0 ∙ sym q.0, append_cancel (codes "
 
 -- the values of a cell are short
 abbrev pub IsShortCell : Cell → Type 0
-IsShortCell c = (x : ℤ) → IsOf c.kind (x ∷ []) → IsShort x
+IsShortCell c = (x : ℤ) → IsOf c.kind (x ∷ []) → IsShortIn c.kind x
 
 -- what reading cells comes to: values with the bytes that follow, or what is wrong with one of them
 pub data Outcome : Type 0 where
@@ -53,7 +53,7 @@ ends_before (d ∷ ds) b more p q ends = by (begins_word d) (d == 39) ends
     by false false h = q
 
 module _ (m : HllModel) (well : Well m) where
-  one_value : (k : Kind) → ((x : ℤ) → IsOf k (x ∷ []) → IsShort x) → (text a b : Text) (x y : ℤ) → HasValue (names m) k text x a → HasValue (names m) k text y b → (x ≡ y) × (a ≡ b)
+  one_value : (k : Kind) → ((x : ℤ) → IsOf k (x ∷ []) → IsShortIn k x) → (text a b : Text) (x y : ℤ) → HasValue (names m) k text x a → HasValue (names m) k text y b → (x ≡ y) × (a ≡ b)
   one_value truth short text a b x y h g = one_word text a b x y (true_word (names m) text a x h) (true_word (names m) text b y g)
   one_value (whole e) short text a b x y h g =
       let p = short x h.value in

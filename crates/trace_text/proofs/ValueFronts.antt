@@ -21,7 +21,7 @@ use Rattle.trace_text.proofs.TextFronts.{append_cancel, plain_parts, plain_word,
 
 -- ---- truth values
 
-truth_cases : (x : ℤ) → IsOf truth (x ∷ []) → (x ≡ pos 0) ⊎ (x ≡ pos 1)
+pub truth_cases : (x : ℤ) → IsOf truth (x ∷ []) → (x ≡ pos 0) ⊎ (x ≡ pos 1)
 truth_cases (pos zero) h = inl refl
 truth_cases (pos (suc zero)) h = inr refl
 truth_cases (pos (suc (suc n))) h = absurd (omega (arith, ints, (holds_in truths (pos (suc (suc n))) h.0).below))

@@ -3,10 +3,13 @@ use Rattle.std.specs.Prelude.{◌≡◌, ℕ, ◌+◌, ◌^◌, ◌<◌, ◌==�
 use Rattle.std.specs.List.{AllByRecursion}
 use Rattle.hll_lexer.specs.Numbers.{is_digit}
 use Rattle.hll_lexer.specs.Pieces.{IsQuoted, Stops}
+use Rattle.hll_lexer.specs.Tokens.{Splits}
 use Rattle.hll_lexer.specs.Words.{begins_word, continues_word}
+use Rattle.hll_lexer.specs.declared.token.Token.{Token}
 use Rattle.hll_tree.specs.declared.tree.HllModel.{HllModel}
 use Rattle.hll_tree.specs.Printing.{Text}
-use Rattle.hll_meaning.specs.Kinds.{Kind, IsOf}
+use Rattle.hll_tree.specs.Spells.{Limit, SpellsUnder}
+use Rattle.hll_meaning.specs.Kinds.{Kind, truth, whole, element, array, struct, IsOf}
 use Rattle.hll_meaning.specs.Names.{Names}
 use Rattle.hll_meaning.specs.Declarations.{names}
 use Rattle.hll_meaning.specs.Cells.{Cell, input_cells}
@@ -105,8 +108,26 @@ abbrev pub IsFaultOf : HllModel → Text → TraceFault → Type 0
 IsFaultOf m text (answer.Fault number kind) = IsFaultAt m text number kind
 IsFaultOf m text answer.Memory = Unit {0}
 
--- each value of an input cell can be read again: it is a word, so each element has a name of its own that is plain or may stand
--- between quotes, and a number of at most 64 binary digits and a sign
+-- ---- texts whose traces are read in one way
+
+-- a text spells the model: the text's tokens do, where some limit says which of them may open a level
+pub record HasText (m : HllModel) : Type 0 where
+  pub limit : Limit
+  pub text : List ℕ
+  pub tokens : List Token
+  pub split : Splits text tokens
+  pub spelled : SpellsUnder limit text tokens m
+
+-- a number of a scalar kind that is written with digits has at most 64 binary ones
+abbrev pub IsShortIn : Kind → ℤ → Type 0
+IsShortIn truth x = Unit {0}
+IsShortIn (whole e) x = unsigned_abs x < 2 ^ 64
+IsShortIn (element root e) x = Unit {0}
+IsShortIn (array n k) x = Unit {0}
+IsShortIn (struct n fields) x = Unit {0}
+
+-- each value of an input cell can be read again: it is a word, so that each element has a name of its own that is plain or may stand
+-- between quotes, and no number is too long
 pub record IsReadable (m : HllModel) : Type 0 where
   pub words : (c : Cell) (x : ℤ) → Contains (input_cells m) c → IsOf c.kind (x ∷ []) → Ends (value_text (names m) c.kind x) []
-  pub short : (c : Cell) (x : ℤ) → Contains (input_cells m) c → IsOf c.kind (x ∷ []) → unsigned_abs x < 2 ^ 64
+  pub short : (c : Cell) (x : ℤ) → Contains (input_cells m) c → IsOf c.kind (x ∷ []) → IsShortIn c.kind x

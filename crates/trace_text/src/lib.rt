@@ -15,7 +15,7 @@ mod words;
 mod writing;
 
 pub use fault::{TraceFault, TraceKind};
-pub use law::{fault_spells_nothing, one_fault, one_trace};
+pub use law::{fault_spells_nothing, one_fault, one_trace, spelled_texts_are_readable};
 pub use reading::read_trace;
 pub use trace::Trace;
 pub use writing::write_trace;
