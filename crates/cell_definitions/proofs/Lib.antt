@@ -1,0 +1,4 @@
+pub mod GatheredDefinitions
+pub mod OwnedCells
+pub mod Spots
+pub mod CellSpots

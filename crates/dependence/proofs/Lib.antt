@@ -1,0 +1,12 @@
+pub mod Members
+pub mod Picks
+pub mod DefinedCells
+pub mod Apart
+pub mod DistinctNames
+pub mod CellOwners
+pub mod DeclaredVariables
+pub mod OwnDefinitions
+pub mod CellWays
+pub mod MentionedWorth
+pub mod MentionForms
+pub mod Statics

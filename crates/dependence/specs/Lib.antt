@@ -1,0 +1,4 @@
+pub mod Mentions
+pub mod Dependence
+pub mod Laws
+pub mod Ways
