@@ -10,13 +10,14 @@ use Rattle.hll_tree.specs.Printing.{Text}
 use Rattle.hll_meaning.specs.Names.{Names}
 use Rattle.hll_meaning.specs.Declarations.{names}
 use Rattle.hll_meaning.specs.Cells.{Cell, input_cells, text_cells}
-use Rattle.trace_text.specs.declared.columns.Column.{Column}
+use Rattle.cell_columns.specs.declared.columns.Column.{Column}
 use Rattle.trace_text.specs.declared.fault.TraceKind.{TraceKind}
 use Rattle.trace_text.specs.declared.fault.TraceKind.TheVariants as wrong
 use Rattle.trace_text.specs.declared.fault.Unread.{Unread}
 use Rattle.trace_text.specs.declared.fault.Unread.TheVariants as unread
 use Rattle.hll_types.specs.Measures.{capped}
-use Rattle.trace_text.specs.Parts.{cell_of, AreLines, AreRead, AreUnread, IsLine, IsUnreadCell, IsUnreadLine, IsWrongCell}
+use Rattle.cell_columns.specs.Columns.{cell_of}
+use Rattle.trace_text.specs.Parts.{AreLines, AreRead, AreUnread, IsLine, IsUnreadCell, IsUnreadLine, IsWrongCell}
 use Rattle.trace_text.specs.Traces.{cells_text, line_text, lines_text, value_text, AreFew, AreValues}
 use Rattle.trace_text.specs.Faults.{HasValue, IsDue, IsRightUpTo, IsWrong, LacksEnd, Never, Stand}
 

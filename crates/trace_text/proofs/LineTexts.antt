@@ -5,8 +5,8 @@ use Rattle.std.proofs.lemmas.List.{append-nil}
 use Rattle.hll_tree.specs.Printing.{Text}
 use Rattle.hll_meaning.specs.Names.{Names}
 use Rattle.hll_meaning.specs.Cells.{Cell}
-use Rattle.trace_text.specs.declared.columns.Column.{Column}
-use Rattle.trace_text.specs.Parts.{cell_of}
+use Rattle.cell_columns.specs.declared.columns.Column.{Column}
+use Rattle.cell_columns.specs.Columns.{cell_of}
 use Rattle.trace_text.specs.Traces.{cells_text, line_text, lines_text}
 
 no_values : (all : Names) (cs : List Cell) → cells_text all cs [] ≡ []

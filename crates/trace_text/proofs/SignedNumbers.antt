@@ -9,9 +9,10 @@ use Rattle.intervals.proofs.AnswerLemmas.{back, bounded}
 use Rattle.hll_meaning.specs.Kinds.{is_in, truths, IsOf}
 use Rattle.hll_meaning.specs.Types.{ends}
 use Rattle.hll_meaning.proofs.Numbers.{holds_in}
-use Rattle.trace_text.specs.declared.columns.Values.{Values}
-use Rattle.trace_text.specs.declared.columns.Values.TheVariants as values
-use Rattle.trace_text.specs.Parts.{kind_of_values, IsShort}
+use Rattle.cell_columns.specs.declared.columns.Values.{Values}
+use Rattle.cell_columns.specs.declared.columns.Values.TheVariants as values
+use Rattle.cell_columns.specs.Columns.{kind_of_values}
+use Rattle.trace_text.specs.Parts.{IsShort}
 
 -- a number as it is passed
 pub passed : (x : ℤ) → FitsSigned w128 x → cast_signed w128 (cast_unsigned w128 x) ≡ x

@@ -1,21 +1,17 @@
--- Words for the contracts of private parts: columns, and what is read at the front of some bytes.
+-- Words for the contracts of private parts: the cells of inputs, and what is read at the front of some bytes.
 use Rattle.std.specs.Prelude.{◌≡◌, ℕ, ◌+◌, ◌-◌, ◌^◌, ◌<◌, ◌*◌, ◌==◌, ℤ, unsigned_abs, Bool, true, false, not, fold, List, [], ◌∷◌, ◌++◌, decimal, length, Some, slice_get}
 use Rattle.std.specs.Fmt.{signed_decimal}
 use Rattle.hll_lexer.specs.Numbers.{is_digit}
 use Rattle.hll_lexer.specs.Pieces.{Stops}
 use Rattle.hll_tree.specs.declared.tree.HllModel.{HllModel}
 use Rattle.hll_tree.specs.Printing.{Text, name_text}
-use Rattle.hll_meaning.specs.Kinds.{Kind, truth, whole, element}
 use Rattle.hll_meaning.specs.Names.{Names}
-use Rattle.hll_meaning.specs.Types.{ends, kind_of}
+use Rattle.hll_meaning.specs.Types.{kind_of}
 use Rattle.hll_meaning.specs.Declarations.{names}
 use Rattle.hll_meaning.specs.Cells.{Cell, input_cells, named_cells}
 use Rattle.hll_types.specs.declared.variables.Role.{Role}
 use Rattle.hll_types.specs.declared.variables.Role.TheVariants as role
 use Rattle.hll_types.specs.declared.variables.Variable.{Variable}
-use Rattle.trace_text.specs.declared.columns.Column.{Column}
-use Rattle.trace_text.specs.declared.columns.Values.{Values}
-use Rattle.trace_text.specs.declared.columns.Values.TheVariants as values
 use Rattle.trace_text.specs.declared.fault.TraceFault.{TraceFault}
 use Rattle.trace_text.specs.declared.fault.TraceFault.TheVariants as answer
 use Rattle.trace_text.specs.declared.fault.TraceKind.{TraceKind}
@@ -24,18 +20,6 @@ use Rattle.trace_text.specs.declared.fault.Unread.{Unread}
 use Rattle.trace_text.specs.declared.fault.Unread.TheVariants as unread
 use Rattle.trace_text.specs.Traces.{line_text, lines_text, AreValues, AreFew, IsTrace}
 use Rattle.trace_text.specs.Faults.{Ends, HasValue, IsDue, IsWrong, Never, Stand}
-
--- ---- columns
-
--- the kind of these values
-abbrev pub kind_of_values : Values → Kind
-kind_of_values values.Truth = truth
-kind_of_values (values.Whole i) = whole (ends i)
-kind_of_values (values.Elements root i) = element root (ends i)
-
--- the cell of a column
-abbrev pub cell_of : Column → Cell
-cell_of c = record { name = c.name; kind = kind_of_values c.values }
 
 -- ---- inputs
 

@@ -9,12 +9,12 @@ ghost use Rattle.hll_meaning.specs.Names.{Names};
 ghost use Rattle.hll_meaning.specs.StaticRules.{Well};
 ghost use Rattle.hll_meaning.specs.Types.{ends};
 ghost use Rattle.trace_text.specs.Faults.{HasValue, Never};
-ghost use Rattle.trace_text.specs.Parts.{kind_of_values};
+ghost use Rattle.cell_columns.specs.Columns.{kind_of_values};
 ghost use Rattle.trace_text.specs.Traces.{element_name, value_text};
 
-use crate::columns::Values;
 use crate::spelling::{push_name, push_signed};
 use crate::words::{after, name_at, stops_word, whole_at};
+use cell_columns::Values;
 use hll_types::Checked;
 use intervals::Interval;
 use std::alloc::AllocError;

@@ -4,13 +4,14 @@ ghost use Rattle.std.specs.Prelude.{◌≡◌, ◌++◌, codes, map, IfOk, OnOk}
 ghost use Rattle.hll_meaning.specs.Cells.{input_cells};
 ghost use Rattle.hll_meaning.specs.Declarations.{names};
 ghost use Rattle.hll_meaning.specs.StaticRules.{Well};
-ghost use Rattle.trace_text.specs.Parts.{cell_of};
+ghost use Rattle.cell_columns.specs.Columns.{cell_of};
 ghost use Rattle.trace_text.specs.Traces.{cells_text, line_text, rows_of, trace_text, AreValues, IsTrace};
 
-use crate::columns::{Column, columns};
+use crate::columns::columns;
 use crate::spelling::push_number;
 use crate::trace::Trace;
 use crate::values::push_value;
+use cell_columns::Column;
 use hll_types::Checked;
 use std::alloc::{AllocError, Global};
 

@@ -1,6 +1,7 @@
 use Rattle.std.proofs.Common.{◌≡◌, map, take}
 use Rattle.std.specs.List.{flat_map}
-use Rattle.trace_text.specs.Parts.{cell_of, own_cells}
+use Rattle.cell_columns.specs.Columns.{cell_of}
+use Rattle.trace_text.specs.Parts.{own_cells}
 use Rattle.trace_text.proofs.columns.columns.Given as goal
 
 abbrev pub invariant-loop-variable : goal.invariant-loop-variable

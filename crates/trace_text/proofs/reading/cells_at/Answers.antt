@@ -2,7 +2,7 @@ use Rattle.std.proofs.Common.{◌≡◌, ℤ, List, [], ◌∷◌, ◌++◌, map
 use Rattle.std.proofs.lemmas.List.{length-map}
 use Rattle.hll_meaning.specs.Declarations.{names}
 use Rattle.trace_text.specs.Faults.{Stand}
-use Rattle.trace_text.specs.Parts.{cell_of}
+use Rattle.cell_columns.specs.Columns.{cell_of}
 use Rattle.trace_text.proofs.SignedNumbers.{short_passed, values_short}
 use Rattle.trace_text.proofs.LineFronts.{cells_wrong, column_at, match_err, stand_more, stand_none}
 use Rattle.trace_text.proofs.reading.cells_at.Goals as goal

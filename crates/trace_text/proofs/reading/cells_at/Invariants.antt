@@ -1,7 +1,7 @@
 use Rattle.std.proofs.Common.{◌≡◌, map, length}
 use Rattle.hll_meaning.specs.Declarations.{names}
 use Rattle.trace_text.specs.Faults.{Stand}
-use Rattle.trace_text.specs.Parts.{cell_of}
+use Rattle.cell_columns.specs.Columns.{cell_of}
 use Rattle.trace_text.proofs.reading.cells_at.Given as goal
 
 abbrev pub invariant-loop-column : goal.invariant-loop-column

@@ -6,7 +6,7 @@ use Rattle.hll_meaning.specs.Kinds.{Kind, element}
 use Rattle.hll_meaning.specs.Names.{Names}
 use Rattle.hll_meaning.specs.Types.{ends}
 use Rattle.trace_text.specs.Faults.{HasValue, Never}
-use Rattle.trace_text.specs.Parts.{kind_of_values}
+use Rattle.cell_columns.specs.Columns.{kind_of_values}
 use Rattle.trace_text.proofs.values.value_at.Goals as goal
 
 -- a value of a kind is answered

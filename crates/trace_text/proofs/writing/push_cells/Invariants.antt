@@ -2,7 +2,7 @@ use Rattle.std.proofs.Common.{◌≡◌, ◌++◌, map}
 use Rattle.std.specs.Iterator.Adapters.{zip_first, zip_second}
 use Rattle.std.specs.Slice.Iter.{iter_rest}
 use Rattle.hll_meaning.specs.Declarations.{names}
-use Rattle.trace_text.specs.Parts.{cell_of}
+use Rattle.cell_columns.specs.Columns.{cell_of}
 use Rattle.trace_text.specs.Traces.{cells_text, AreValues}
 use Rattle.trace_text.proofs.writing.push_cells.Given as goal
 

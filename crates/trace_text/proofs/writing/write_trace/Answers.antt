@@ -1,7 +1,7 @@
 use Rattle.std.proofs.Common.{◌≡◌, ◌<◌, ◌≤◌, ◌++◌, ℤ, List, map, length, get_or, sym, ap, subst, ◌∙◌}
 use Rattle.hll_meaning.specs.Cells.{Cell, input_cells}
 use Rattle.hll_meaning.specs.Declarations.{names}
-use Rattle.trace_text.specs.Parts.{cell_of}
+use Rattle.cell_columns.specs.Columns.{cell_of}
 use Rattle.trace_text.specs.Traces.{line_text, trace_text, rows_of, AreValues}
 use Rattle.trace_text.proofs.LineTexts.{lines_end, lines_more, row_holds}
 use Rattle.trace_text.proofs.writing.write_trace.Goals as goal
