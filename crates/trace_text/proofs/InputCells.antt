@@ -1,5 +1,5 @@
 -- The cells of types and of variables, part by part, and how many they are.
-use Rattle.std.proofs.Common.{◌≡◌, ℕ, zero, suc, ◌+◌, ◌*◌, ◌-◌, ◌^◌, min, Bool, true, false, List, [], ◌∷◌, ◌++◌, map, length, refl, sym, ap, ◌∙◌, arith, append_assoc, zero-add, if◌then◌else◌}
+use Rattle.std.proofs.Common.{◌≡◌, ℕ, ◌+◌, ◌*◌, ◌-◌, ◌^◌, min, Bool, true, false, List, [], ◌∷◌, ◌++◌, map, length, refl, sym, ap, ◌∙◌, if◌then◌else◌}
 use Rattle.std.specs.Prelude.{codes, decimal}
 use Rattle.std.specs.List.{flat_map, list_any, range_with_len}
 use Rattle.std.proofs.lemmas.List.{append-nil, length-append, map-append}
@@ -23,32 +23,6 @@ use Rattle.hll_types.specs.Measures.{capped, field_kinds_of, fields_measure, kin
 use Rattle.hll_types.specs.Checked.{is_memory, role_by, roles_among, AreVariables}
 use Rattle.hll_types.proofs.Measuring.{measure-array, measure_further, sum_within}
 use Rattle.trace_text.specs.Parts.{cells_by_role, own_cells}
-
--- ---- parts
-
-range_more : (a n : ℕ) → range_with_len a (n + 1) ≡ range_with_len a n ++ (a + n) ∷ []
-range_more a zero = let same : a ≡ a + 0 = omega arith in ap (λ (b : ℕ). b ∷ []) same
-range_more a (suc n) =
-    let same : a + 1 + n ≡ a + suc n = omega arith in
-    let next : suc n + 1 ≡ suc (n + 1) = omega arith in
-    ap (range_with_len a) next ∙ ap (λ (xs : List ℕ). a ∷ xs) (range_more (a + 1) n ∙ ap (λ (b : ℕ). range_with_len (a + 1) n ++ b ∷ []) same)
-
--- the cells of one element more
-pub elements_more : (name : Text) (k : Kind) (i : ℕ) → named_cells name (array (i + 1) k) ≡ named_cells name (array i k) ++ named_cells (name ++ codes "[" ++ decimal i ++ codes "]") k
-elements_more name k i =
-    let one = λ (j : ℕ). named_cells (name ++ codes "[" ++ decimal j ++ codes "]") k in
-    ap (flat_map one) (range_more 0 i ∙ ap (λ (j : ℕ). range_with_len 0 i ++ j ∷ []) (zero-add i))
-    ∙ flat_map-append one (range_with_len 0 i) (i ∷ [])
-    ∙ ap (λ cs. named_cells name (array i k) ++ cs) (append-nil (one i))
-
--- the cells of one field more
-pub fields_more : (name : Text) (fields : List FieldTy) (f : FieldTy) →
-    field_cells name (field_kinds_of (fields ++ f ∷ [])) ≡ field_cells name (field_kinds_of fields) ++ named_cells (name ++ codes "." ++ name_text f.name) (kind_of f.ty)
-fields_more name [] f = append-nil (named_cells (name ++ codes "." ++ name_text f.name) (kind_of f.ty))
-fields_more name (e ∷ fields) f =
-    let own = named_cells (name ++ codes "." ++ name_text e.name) (kind_of e.ty) in
-    ap (λ cs. own ++ cs) (fields_more name fields f)
-    ∙ sym (append_assoc own (field_cells name (field_kinds_of fields)) (named_cells (name ++ codes "." ++ name_text f.name) (kind_of f.ty)))
 
 -- ---- variables
 
@@ -147,8 +121,3 @@ count_more vs v a b p q =
 
 pub count_all : (m : HllModel) (vs : List Variable) → AreVariables m vs → count_of vs ≡ length (text_cells m)
 count_all m vs h = ap (λ xs. length (cells_of_all xs)) h.kinds
-
--- ---- one behind the other
-
-pub appended_more : {A : Type 0} (old mid new front more all : List A) → mid ≡ old ++ front → new ≡ mid ++ more → all ≡ front ++ more → new ≡ old ++ all
-appended_more old mid new front more all p q r = q ∙ ap (λ xs. xs ++ more) p ∙ append_assoc old front more ∙ ap (λ xs. old ++ xs) (sym r)
