@@ -14,4 +14,5 @@ pub mod Safety
 pub mod Soundness
 pub mod WellTexts
 pub mod Places
+pub mod Texts
 pub mod NodeLaws

@@ -12,6 +12,7 @@ use Rattle.hll_meaning.specs.Declarations.{names}
 use Rattle.hll_meaning.specs.Nodes.{text_ranges}
 use Rattle.hll_meaning.specs.Runs.{variable_kind, variables_among, variables}
 use Rattle.hll_meaning.specs.StaticRules.{definitions_of, Well}
+use Rattle.hll_meaning.specs.Texts.{HasText}
 use Rattle.hll_expressions.specs.Things.{names_of}
 use Rattle.hll_types.specs.declared.define.Defined.{Defined}
 use Rattle.hll_types.specs.declared.elements.Elements.{Elements}
@@ -99,3 +100,8 @@ pub record AreTables (m : HllModel) (t : Tables) : Type 0 where
 pub record IsChecked (m : HllModel) (t : Tables) : Type 0 where
   pub well : Well m
   pub tables : AreTables m t
+
+-- a text without faults that is spelled, with its tables
+pub record IsKept (m : HllModel) (t : Tables) : Type 0 where
+  pub spelled : HasText m
+  pub checked : IsChecked m t

@@ -8,6 +8,7 @@ ghost use Rattle.hll_meaning.specs.Names.{under};
 ghost use Rattle.hll_meaning.specs.Nodes.{text_ranges};
 ghost use Rattle.hll_meaning.specs.Runs.{variables};
 ghost use Rattle.hll_meaning.specs.StaticRules.{faults, Well};
+ghost use Rattle.hll_meaning.specs.Texts.{HasText};
 ghost use Rattle.hll_meaning.specs.Types.{kind_of};
 ghost use Rattle.hll_expressions.specs.Answers.{IsFaultAt};
 ghost use Rattle.hll_expressions.specs.Things.{said_of};
@@ -24,7 +25,7 @@ use intervals::Interval;
 use std::alloc::Global;
 use std::marker::Model;
 
-/// A text without static faults, with what is kept of it for its readers. Contracts see the text.
+/// A text that is spelled and has no static faults, with what is kept of it for its readers. Contracts see the text.
 #[derive(Drop)]
 pub struct Checked {
     model: HllModel,
@@ -40,11 +41,11 @@ impl Model for Checked {
 
     ghost coded = { the_row.coded };
 
-    ghost use Rattle.hll_types.specs.Tables.{IsChecked};
+    ghost use Rattle.hll_types.specs.Tables.{IsKept};
 
     ghost view = { λ c. c.model };
 
-    ghost invariant = { λ c. IsChecked c.model c.tables };
+    ghost invariant = { λ c. IsKept c.model c.tables };
 }
 
 /// The type that a name stands for.
@@ -59,6 +60,7 @@ fn declared_type(thing: &Thing) -> Option<&Ty>
 
 /// A text that is checked, where it has no static fault; else its first fault, and the text is given up.
 pub fn check(alloc: Global, model: HllModel) -> Result<Checked, StaticFault>
+    requires { HasText model }
     ensures { MatchResult result (λ checked. (checked ≡ model) × Well model) (IsFaultAt (faults model)) }
 {
     let tables = tables(alloc, &model)?;
@@ -69,6 +71,7 @@ impl Checked {
     pub fn model(&self) -> &HllModel
         ensures is { result.now ≡ self.now }
         ensures well { Well self.now }
+        ensures spelled { HasText self.now }
     {
         &self.model
     }

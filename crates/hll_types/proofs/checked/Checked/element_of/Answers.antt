@@ -8,4 +8,4 @@ use Rattle.hll_types.proofs.checked.Checked.element_of.Goals as goal
 pub returns : goal.returns
 returns c =
     subst (λ (o : Option (List ℕ)). IsElementOf (names c.args.self.now) c.args.root.now c.args.code o) (sym c.get.ensures)
-    (subst (λ (m : HllModel). IsElementOf (names m) c.args.root.now c.args.code (element_in c.self.inside.tables.elements c.args.root.now c.args.code)) c.self.view_is (c.self.invariant.tables.elements c.args.root.now c.args.code))
+    (subst (λ (m : HllModel). IsElementOf (names m) c.args.root.now c.args.code (element_in c.self.inside.tables.elements c.args.root.now c.args.code)) c.self.view_is (c.self.invariant.checked.tables.elements c.args.root.now c.args.code))

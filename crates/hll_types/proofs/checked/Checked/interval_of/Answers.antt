@@ -7,4 +7,4 @@ use Rattle.hll_types.proofs.checked.Checked.interval_of.Goals as goal
 pub returns : goal.returns
 returns c =
     c.range_at.ensures (text_ranges c.args.self.now)
-    (subst (λ (m : HllModel). Tabulates c.self.inside.tables.ranges (text_ranges m)) c.self.view_is c.self.invariant.tables.ranges)
+    (subst (λ (m : HllModel). Tabulates c.self.inside.tables.ranges (text_ranges m)) c.self.view_is c.self.invariant.checked.tables.ranges)

@@ -7,4 +7,4 @@ use Rattle.hll_types.proofs.checked.Checked.type_of.Goals as goal
 pub returns-in-Thing : goal.returns-in-Thing
 returns-in-Thing c =
     c.declared_type.ensures
-    ∙ ap type_in (stands_under c.self.inside.model c.args.self.now c.self.inside.tables c.self.invariant c.self.view_is c.args.name.now (Some (said_of c.in-Thing.thing.now)) c.in-Thing.ensures)
+    ∙ ap type_in (stands_under c.self.inside.model c.args.self.now c.self.inside.tables c.self.invariant.checked c.self.view_is c.args.name.now (Some (said_of c.in-Thing.thing.now)) c.in-Thing.ensures)

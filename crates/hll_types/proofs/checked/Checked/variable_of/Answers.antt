@@ -9,4 +9,4 @@ use Rattle.hll_types.proofs.checked.Checked.variable_of.Goals as goal
 pub returns : goal.returns
 returns c =
     c.get_index_of.ensures.index ∙ position_named (λ k. k.items) (bytes_eq c.args.name.now) c.self.inside.tables.positions.keys
-    ∙ ap (position (bytes_eq c.args.name.now)) (c.self.invariant.tables.positions ∙ ap (λ (m : HllModel). map (λ (x : List ℕ × Kind). x.0) (variables m)) c.self.view_is)
+    ∙ ap (position (bytes_eq c.args.name.now)) (c.self.invariant.checked.tables.positions ∙ ap (λ (m : HllModel). map (λ (x : List ℕ × Kind). x.0) (variables m)) c.self.view_is)

@@ -7,4 +7,4 @@ use Rattle.hll_types.proofs.checked.Checked.variables.Goals as goal
 pub returns : goal.returns
 returns c =
     subst (λ (vs : List Variable). AreVariables c.args.self.now vs) (sym c.as_slice.ensures.value)
-    (subst (λ (m : HllModel). AreVariables m c.self.inside.tables.variables.items) c.self.view_is c.self.invariant.tables.listed)
+    (subst (λ (m : HllModel). AreVariables m c.self.inside.tables.variables.items) c.self.view_is c.self.invariant.checked.tables.listed)
