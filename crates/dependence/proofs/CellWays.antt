@@ -12,7 +12,7 @@ use Rattle.hll_meaning.specs.WellTexts.{IsFitting}
 use Rattle.hll_meaning.proofs.WellTexts.{definitions_fit}
 use Rattle.dependence.specs.Mentions.{stretch_of}
 use Rattle.dependence.specs.Dependence.{cell_count}
-use Rattle.dependence.specs.Ways.{Way, free, whole, stepwise, IsInputCell, DefinesCell, AreItsDefinitions, IsWay, way_by, HasOneWay, EachCellHasOneWay, InputsAreNotDefined}
+use Rattle.dependence.specs.Ways.{Way, free, whole, stepwise, DefinesCell, IsWay, way_by, EachCellHasOneWay, InputsAreNotDefined}
 use Rattle.dependence.proofs.CellOwners.{IsOwned, is_owned, same_owner, StandsFor, stands_for, variables_apart}
 use Rattle.dependence.proofs.DeclaredVariables.{is_declared}
 use Rattle.dependence.proofs.DefinedCells.{is_stretch, defined_inside}
@@ -133,7 +133,7 @@ module _ (m : HllModel) (well : Well m) (cell : ℕ) (own : IsOwned 0 (variables
 part_is_not : (a b : PartKind) (d e : Def) → part_kind d.part ≡ a → part_kind e.part ≡ b → (a ≡ b → ⊥) → d ≡ e → ⊥
 part_is_not a b d e p q never same = never (sym p ∙ ap (λ (x : Def). part_kind x.part) same ∙ q)
 
-one_alone : (d e : Def) → Contains (d ∷ []) e → d ≡ e
+pub one_alone : (d e : Def) → Contains (d ∷ []) e → d ≡ e
 one_alone d e h = by (front_or_further d [] e h)
   where
     by : (d ≡ e) ⊎ Contains [] e → d ≡ e

@@ -1,5 +1,5 @@
 -- What stands in lists: in front, further on, in a list that is made of others.
-use Rattle.std.proofs.Common.{◌≡◌, ℕ, zero, suc, ◌+◌, ◌<◌, ◌⊎◌, inl, inr, List, [], ◌∷◌, map, length, get_or, refl, sym, subst, arith}
+use Rattle.std.proofs.Common.{◌≡◌, ℕ, zero, suc, ◌+◌, ◌<◌, ◌⊎◌, inl, inr, List, [], ◌∷◌, ◌++◌, map, length, get_or, refl, sym, subst, arith}
 use Rattle.std.specs.List.{AllByRecursion, Contains, flat_map, range_with_len}
 use Rattle.std.proofs.lemmas.List.Elements.{Contains-append_left, Contains-append_right, Contains-append_cases}
 
@@ -29,6 +29,11 @@ all_hold {A} P (y ∷ xs) x all h = by (all_hold P xs x all.1) (front_or_further
     by : (Contains xs x → P x) → (y ≡ x) ⊎ Contains xs x → P x
     by rest (inl same) = subst P same all.0
     by rest (inr there) = rest there
+
+-- what holds of all of two lists holds of all of each
+pub all_both : {A : Type 0} (P : A → Type 0) (xs ys : List A) → AllByRecursion P (xs ++ ys) → AllByRecursion P xs × AllByRecursion P ys
+all_both P [] ys all = (tt, all)
+all_both P (x ∷ xs) ys all = let p = all_both P xs ys all.1 in ((all.0, p.0), p.1)
 
 -- ---- made of others
 

@@ -105,21 +105,21 @@ array_cells size k = repeated_from (ranges k) 0 size
 -- ---- elements that are picked
 
 -- an element of a part, seen from the whole
-record IsInPart (n : Name) (size : ℕ) (ss : List Slot) (k : Kind) (e : Element) : Type 0 where
-  place : ℕ
-  below : place < size
-  inner : Element
-  picks : Contains (picked ss k) inner
-  is : within (slot.Index n) place (place * cells k) inner ≡ e
+pub record IsInPart (n : Name) (size : ℕ) (ss : List Slot) (k : Kind) (e : Element) : Type 0 where
+  pub place : ℕ
+  pub below : place < size
+  pub inner : Element
+  pub picks : Contains (picked ss k) inner
+  pub is : within (slot.Index n) place (place * cells k) inner ≡ e
 
-in_part : (n : Name) (size : ℕ) (ss : List Slot) (k : Kind) (e : Element) → Contains (picked (slot.Index n ∷ ss) (array size k)) e → IsInPart n size ss k e
+pub in_part : (n : Name) (size : ℕ) (ss : List Slot) (k : Kind) (e : Element) → Contains (picked (slot.Index n ∷ ss) (array size k)) e → IsInPart n size ss k e
 in_part n size ss k e h =
     let a = from_flat (λ place. map (within (slot.Index n) place (place * cells k)) (picked ss k)) (range_with_len 0 size) e h in
     let b = from_map (within (slot.Index n) a.of (a.of * cells k)) (picked ss k) e a.here in
     record { place = a.of; below = omega (arith, below_end 0 size a.of a.there); inner = b.of; picks = b.there; is = b.is }
 
 -- where nothing is left but the whole
-whole_alone : (k : Kind) (e : Element) → Contains (picked [] k) e → record { bound = []; start = 0; kind = k } ≡ e
+pub whole_alone : (k : Kind) (e : Element) → Contains (picked [] k) e → record { bound = []; start = 0; kind = k } ≡ e
 whole_alone k e h = by (front_or_further (record { bound = []; start = 0; kind = k }) [] e h)
   where
     by : (record { bound = []; start = 0; kind = k } ≡ e) ⊎ Contains [] e → record { bound = []; start = 0; kind = k } ≡ e

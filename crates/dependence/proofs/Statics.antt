@@ -1,20 +1,18 @@
 -- A static expression has one value at all instants of all histories.
-use Rattle.std.proofs.Common.{◌≡◌, ℕ, ℤ, pos, Bool, true, false, ◌&&◌, not, List, [], ◌∷◌, ◌++◌, map, Option, Some, None, refl, sym, ap, subst, ◌∙◌}
+use Rattle.std.proofs.Common.{◌≡◌, ℕ, ℤ, pos, true, false, ◌&&◌, not, List, [], ◌∷◌, ◌++◌, map, Option, Some, None, refl, sym, ap, ◌∙◌}
 use Rattle.std.specs.Prelude.{if◌then◌else◌, neg_ℤ, unsigned_abs}
 use Rattle.std.specs.List.{AllByRecursion, flat_map, list_all}
 use Rattle.std.specs.Str.{bytes_eq}
-use Rattle.intervals.specs.Ends.{Ends}
-use Rattle.intervals.specs.declared.interval.Interval.{Interval}
 use Rattle.hll_tree.specs.declared.tree.Branch.{Branch}
 use Rattle.hll_tree.specs.declared.tree.Cmp.{Cmp}
-use Rattle.hll_tree.specs.declared.tree.Domain.{Domain, Bounds, Bool as Truths, Named}
+use Rattle.hll_tree.specs.declared.tree.Domain.{Domain}
 use Rattle.hll_tree.specs.declared.tree.Expr.{Expr}
-use Rattle.hll_tree.specs.declared.tree.Form.{Form-F, Number, Truth, Path, Chain, Compare, Minus, Not, Choice, Group, Quant as Quantified, Pre, Least, Greatest, Size, Starting, Within}
+use Rattle.hll_tree.specs.declared.tree.Form.{Path, Chain, Compare, Choice, Quant as Quantified}
 use Rattle.hll_tree.specs.declared.tree.Link.{Link}
 use Rattle.hll_tree.specs.declared.tree.Name.{Name}
 use Rattle.hll_tree.specs.declared.tree.Op.{Op}
 use Rattle.hll_tree.specs.declared.tree.Quant.{Quant}
-use Rattle.hll_tree.specs.declared.tree.Reach.{Reach, Reach-F, At, Field}
+use Rattle.hll_tree.specs.declared.tree.Reach.{Reach}
 use Rattle.hll_meaning.specs.Kinds.{Value, Step, index, is_in}
 use Rattle.hll_meaning.specs.Names.{Thing, constant, type_of, code_in, variable, later, Names, under}
 use Rattle.hll_meaning.specs.Values.{Scene, In, of_number, of_truth, number, is_true, chained, compared, chosen, quantified_value, numbers, named_domain, least, greatest, thing_value, bound_value, path_value, worth}

@@ -9,7 +9,7 @@ use Rattle.hll_tree.specs.declared.tree.Form.{Form-F}
 use Rattle.hll_tree.specs.declared.tree.Op.{Op}
 use Rattle.hll_tree.specs.declared.tree.Reach.{Reach-F}
 use Rattle.hll_meaning.specs.Kinds.{Kind, truth, whole, element, array, struct, Fields, none, field, Value, Step, index, name, cells, place_in}
-use Rattle.hll_meaning.specs.Names.{Thing, constant, type_of, code_in, variable, later, Names, under}
+use Rattle.hll_meaning.specs.Names.{Thing, constant, type_of, code_in, variable, later, under}
 use Rattle.hll_meaning.specs.Runs.{variables_among}
 use Rattle.hll_meaning.specs.Values.{Scene, In, is_true, numbers, domain_range, form_worth, reach_step}
 
