@@ -19,7 +19,7 @@ use Rattle.hll_meaning.specs.Declarations.{kind_of_thing, written_kind, with_dim
 use Rattle.hll_meaning.specs.StaticRules.{types_of_item, Well}
 use Rattle.hll_meaning.proofs.Scenes.{under_all}
 use Rattle.hll_types.proofs.SortTables.{table_further}
-use Rattle.trace_text.specs.Faults.{HasText}
+use Rattle.hll_meaning.specs.Texts.{HasText}
 use Rattle.trace_text.proofs.DeclaredElements.{codes_covered}
 use Rattle.trace_text.proofs.ElementCodes.{contained}
 use Rattle.trace_text.proofs.FilledSorts.{sort_filled}

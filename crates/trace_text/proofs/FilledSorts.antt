@@ -21,7 +21,7 @@ use Rattle.hll_types.proofs.PassTypes.{types_of_pass}
 use Rattle.hll_types.proofs.RootedSorts.{under_kept}
 use Rattle.hll_types.proofs.SortTables.{IsOther, sorts_further, table_further}
 use Rattle.hll_types.proofs.TidyTables.{children_parts}
-use Rattle.trace_text.specs.Faults.{HasText}
+use Rattle.hll_meaning.specs.Texts.{HasText}
 use Rattle.trace_text.proofs.RootParts.{own, start}
 use Rattle.trace_text.proofs.SpelledItems.{IsSpelledType, IsSpelledItem, items_spelled}
 

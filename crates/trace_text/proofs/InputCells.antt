@@ -22,6 +22,7 @@ use Rattle.hll_types.specs.declared.measure.Measure.{Measure}
 use Rattle.hll_types.specs.Measures.{capped, field_kinds_of, fields_measure, kind_measure}
 use Rattle.hll_types.specs.Checked.{is_memory, role_by, roles_among, AreVariables}
 use Rattle.hll_types.proofs.Measuring.{measure-array, measure_further, sum_within}
+use Rattle.cell_columns.specs.Columns.{all_columns}
 use Rattle.trace_text.specs.Parts.{cells_by_role, own_cells}
 
 -- ---- variables
@@ -66,6 +67,18 @@ input_cells_are m vs h = sym (inputs_by_role (definitions m) (names m) vs h.kind
 -- the cells of one variable more
 pub own_more : (vs : List Variable) (v : Variable) → flat_map own_cells (vs ++ v ∷ []) ≡ flat_map own_cells vs ++ own_cells v
 own_more vs v = flat_map-append own_cells vs (v ∷ []) ∙ ap (λ cs. flat_map own_cells vs ++ cs) (append-nil (own_cells v))
+
+-- the cells of all variables of a text
+pub text_cells_are : (m : HllModel) (vs : List Variable) → AreVariables m vs → flat_map all_columns vs ≡ text_cells m
+text_cells_are m vs h = pairs vs ∙ ap cells_of_all h.kinds
+  where
+    pairs : (vs : List Variable) → flat_map all_columns vs ≡ cells_of_all (map kind_pair vs)
+    pairs [] = refl
+    pairs (v ∷ vs) = ap (λ cs. all_columns v ++ cs) (pairs vs)
+
+-- the same with one variable more
+pub all_more : (vs : List Variable) (v : Variable) → flat_map all_columns (vs ++ v ∷ []) ≡ flat_map all_columns vs ++ all_columns v
+all_more vs v = flat_map-append all_columns vs (v ∷ []) ∙ ap (λ cs. flat_map all_columns vs ++ cs) (append-nil (all_columns v))
 
 -- ---- how many they are
 

@@ -17,7 +17,8 @@ use Rattle.hll_meaning.specs.Kinds.{Kind, truth, whole, element, array, struct, 
 use Rattle.hll_meaning.specs.Names.{constant, type_of, code_in, variable, later, Names}
 use Rattle.hll_meaning.specs.StaticRules.{Well}
 use Rattle.hll_meaning.proofs.Scenes.{by_test}
-use Rattle.trace_text.specs.Faults.{Ends, HasText, IsReadable, IsShortIn}
+use Rattle.hll_meaning.specs.Texts.{HasText}
+use Rattle.trace_text.specs.Faults.{Ends, IsReadable, IsShortIn}
 use Rattle.trace_text.specs.Parts.{IsShort}
 use Rattle.trace_text.specs.Traces.{element_name, value_text}
 use Rattle.trace_text.proofs.CoveredKinds.{IsCode, IsCovered, AreCoveredFields, IsCoveredThing, element_named_so, names_covered}

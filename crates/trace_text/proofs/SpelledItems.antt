@@ -16,7 +16,7 @@ use Rattle.hll_tree.proofs.FineTokens.{tokens_fine}
 use Rattle.hll_tree.proofs.GivenExpressions.{IsNamed, gives_name}
 use Rattle.hll_tree.proofs.Gives.{Gives, Several, all_append, gives_before, gives_behind, gives_either, gives_listed, gives_made, gives_many, gives_then}
 use Rattle.hll_meaning.specs.Declarations.{Item, a_constant, a_type, variables_of, items, items_in}
-use Rattle.trace_text.specs.Faults.{HasText}
+use Rattle.hll_meaning.specs.Texts.{HasText}
 
 -- an enumeration and a sort have elements or children, with names that can be printed
 abbrev pub IsSpelledType : TypeItem → Type 0

@@ -3,12 +3,9 @@ use Rattle.std.specs.Prelude.{◌≡◌, ℕ, ◌+◌, ◌^◌, ◌<◌, ◌==�
 use Rattle.std.specs.List.{AllByRecursion}
 use Rattle.hll_lexer.specs.Numbers.{is_digit}
 use Rattle.hll_lexer.specs.Pieces.{IsQuoted, Stops}
-use Rattle.hll_lexer.specs.Tokens.{Splits}
 use Rattle.hll_lexer.specs.Words.{begins_word, continues_word}
-use Rattle.hll_lexer.specs.declared.token.Token.{Token}
 use Rattle.hll_tree.specs.declared.tree.HllModel.{HllModel}
 use Rattle.hll_tree.specs.Printing.{Text}
-use Rattle.hll_tree.specs.Spells.{Limit, SpellsUnder}
 use Rattle.hll_meaning.specs.Kinds.{Kind, truth, whole, element, array, struct, IsOf}
 use Rattle.hll_meaning.specs.Names.{Names}
 use Rattle.hll_meaning.specs.Declarations.{names}
@@ -109,14 +106,6 @@ IsFaultOf m text (answer.Fault number kind) = IsFaultAt m text number kind
 IsFaultOf m text answer.Memory = Unit {0}
 
 -- ---- texts whose traces are read in one way
-
--- a text spells the model: the text's tokens do, where some limit says which of them may open a level
-pub record HasText (m : HllModel) : Type 0 where
-  pub limit : Limit
-  pub text : List ℕ
-  pub tokens : List Token
-  pub split : Splits text tokens
-  pub spelled : SpellsUnder limit text tokens m
 
 -- a number of a scalar kind that is written with digits has at most 64 binary ones
 abbrev pub IsShortIn : Kind → ℤ → Type 0

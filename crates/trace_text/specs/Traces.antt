@@ -4,6 +4,8 @@ use Rattle.std.specs.Fmt.{signed_decimal}
 use Rattle.std.specs.List.{AllByRecursion}
 use Rattle.std.specs.Ordering.{int_eq}
 use Rattle.std.specs.Str.{bytes_eq}
+use Rattle.std.specs.declared.alloc.Global.{Global}
+use Rattle.std.specs.declared.vec.Vec.{Vec}
 use Rattle.hll_tree.specs.declared.tree.HllModel.{HllModel}
 use Rattle.hll_tree.specs.Printing.{Text, name_text}
 use Rattle.hll_meaning.specs.Kinds.{Kind, truth, whole, element, array, struct, IsOf}
@@ -53,9 +55,13 @@ lines_text all cs t (row ∷ rows) = line_text all cs t row ++ lines_text all cs
 
 -- ---- traces
 
+-- the numbers of rows
+abbrev pub numbers_of : List (Vec ℤ Global) → List (List ℤ)
+numbers_of = map (λ row. row.items)
+
 -- the rows of a trace
 abbrev pub rows_of : Trace → List (List ℤ)
-rows_of trace = map (λ row. row.items) trace.rows.items
+rows_of trace = numbers_of trace.rows.items
 
 -- each cell has a value of its kind
 abbrev pub AreValues : List Cell → List ℤ → Type 0

@@ -1,7 +1,7 @@
-//! The input cells of a text, in their order: what they are called, and which values they have.
+//! The cells of a text, in their order: what they are called, and which values they have.
 
 ghost use Rattle.std.specs.Prelude.{◌≡◌, ◌++◌, map, IfOk, OnOk};
-ghost use Rattle.hll_meaning.specs.Cells.{input_cells};
+ghost use Rattle.hll_meaning.specs.Cells.{input_cells, text_cells};
 ghost use Rattle.cell_columns.specs.Columns.{cell_of};
 ghost use Rattle.trace_text.specs.Parts.{own_cells};
 
@@ -31,6 +31,18 @@ pub(crate) fn columns(alloc: Global, checked: &Checked) -> Result<Vec<Column>, A
     let mut columns = Vec::new(alloc);
     for variable in variables {
         push_variable(alloc, &mut columns, variable)?;
+    }
+    Ok(columns)
+}
+
+/// The cells of all variables of a text.
+pub(crate) fn text_columns(alloc: Global, checked: &Checked) -> Result<Vec<Column>, AllocError>
+    ensures { IfOk result (λ columns. map cell_of columns.items ≡ text_cells checked.now) }
+{
+    let variables = checked.variables();
+    let mut columns = Vec::new(alloc);
+    for variable in variables {
+        push_columns(alloc, &mut columns, variable)?;
     }
     Ok(columns)
 }

@@ -4,7 +4,8 @@ ghost use Rattle.std.specs.Prelude.{◌≡◌, ℕ, ℤ, List};
 ghost use Rattle.hll_tree.specs.declared.tree.HllModel.{HllModel};
 ghost use Rattle.hll_meaning.specs.StaticRules.{Well};
 ghost use Rattle.trace_text.specs.declared.fault.TraceKind.{TraceKind};
-ghost use Rattle.trace_text.specs.Faults.{HasText, IsFaultAt, IsReadable};
+ghost use Rattle.hll_meaning.specs.Texts.{HasText};
+ghost use Rattle.trace_text.specs.Faults.{IsFaultAt, IsReadable};
 ghost use Rattle.trace_text.specs.Traces.{Spells};
 
 /// Each value of a cell of a text can be read again where it is written.

@@ -18,4 +18,4 @@ pub use fault::{TraceFault, TraceKind};
 pub use law::{fault_spells_nothing, one_fault, one_trace, spelled_texts_are_readable};
 pub use reading::read_trace;
 pub use trace::Trace;
-pub use writing::write_trace;
+pub use writing::{write_rows, write_trace};
