@@ -8,8 +8,8 @@ use Rattle.trace_text.proofs.writing.lines.Goals as goal
 pub push_line-requires-clause-values : goal.push_line-requires-clause-values
 push_line-requires-clause-values c =
     let cells = map cell_of c.args.columns.now in
-    let row = c.row-item.result in
-    let values = row_holds (λ r. r.items) (AreValues cells) c.args.rows.now c.loop-instant.instant row c.loop-instant-test.true c.row-item.is c.requires.values in
+    let row = c.index-rows-instant.result in
+    let values = row_holds (λ r. r.items) (AreValues cells) c.args.rows.now c.loop-instant.instant row c.loop-instant-test.true c.index-rows-instant.is c.requires.values in
     subst (λ (xs : List ℤ). AreValues cells xs) (sym c.as_slice.ensures.value) values
 
 pub loop-instant-preserved : goal.loop-instant-preserved
@@ -18,9 +18,9 @@ loop-instant-preserved c =
     let cells = map cell_of c.args.columns.now in
     let rows = c.args.rows.now in
     let i = c.loop-instant.instant in
-    let row = c.row-item.result in
+    let row = c.index-rows-instant.result in
     let more = c.in_ok-push_line.ensures ∙ (λ j. c.loop-instant.out.items ++ line_text (names m) cells i (c.as_slice.ensures.value j)) in
-    lines_more (λ r. r.items) (names m) cells rows i row c.loop-instant.out.items c.push_line.new.out.items (lines_text (names m) cells 0 (numbers_of rows)) c.loop-instant-test.true c.row-item.is c.loop-instant.invariant more
+    lines_more (λ r. r.items) (names m) cells rows i row c.loop-instant.out.items c.push_line.new.out.items (lines_text (names m) cells 0 (numbers_of rows)) c.loop-instant-test.true c.index-rows-instant.is c.loop-instant.invariant more
 
 pub returns : goal.returns
 returns c =
